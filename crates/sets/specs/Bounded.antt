@@ -1,0 +1,158 @@
+-- Tests over the numbers below a bound: all pass, some passes, the greatest that passes, how many pass.
+-- A set of numbers is a test, ℕ → Bool, of which only what lies below the bound counts. Assumes nothing.
+use mathlib.Core.Path.{_≡_, refl, subst}
+use mathlib.Core.Bool.{Bool, true, false, _&&_, _||_}
+use mathlib.Core.Logic.{_⊎_, inl, inr, ⊎-elim}
+use mathlib.Core.Option.{Option, none, some}
+use Prim.Native.Nat.{ℕ, zero, suc, _+_, _≤_, _<_}
+use native.Mathlib.Nat.{not-suc-le-zero, le-of-suc-le-suc, eq-or-lt-of-le, le-refl, le-step, not-suc-le-self, lt-of-lt-of-le, add-le-add, add-lt-add-of-lt-of-le, add-lt-add-of-le-of-lt}
+use native.Mathlib.Numerals.{add-one}
+use native.Mathlib.Omega.{arith}
+use lib.Dec.{T}
+use Rattle.sets.specs.Choice.{pick, and-intro, and-left, and-right, or-cases, or-left, or-right, T→true, true→T, refuted→false, false→refuted}
+
+-- every number below n that is in B is in A
+abbrev pub Within : ℕ → (ℕ → Bool) → (ℕ → Bool) → Type 0
+Within n B A = (j : ℕ) → j < n → T (B j) → T (A j)
+
+-- what holds below n and at n holds below suc n
+pub below-suc : (P : ℕ → Type 0) (n : ℕ) → ((k : ℕ) → k < n → P k) → P n → (k : ℕ) → k < suc n → P k
+below-suc P n under at k h = ⊎-elim (λ e. subst P (ap-sym e) at) (λ l. under k l) (eq-or-lt-of-le (le-of-suc-le-suc h))
+  where
+    ap-sym : k ≡ n → n ≡ k
+    ap-sym e = omega arith
+
+-- ---- all
+
+unfoldable pub all : ℕ → (ℕ → Bool) → Bool
+all zero p = true
+all (suc n) p = p n && all n p
+
+pub all-at : (n : ℕ) (p : ℕ → Bool) → T (all n p) → (k : ℕ) → k < n → T (p k)
+unfolding all
+all-at zero p t = λ k h. absurd (not-suc-le-zero h)
+all-at (suc n) p t = below-suc (λ k. T (p k)) n (all-at n p (and-right (p n) (all n p) t)) (and-left (p n) (all n p) t)
+
+pub all-of : (n : ℕ) (p : ℕ → Bool) → ((k : ℕ) → k < n → T (p k)) → T (all n p)
+unfolding all
+all-of zero p each = tt
+all-of (suc n) p each = and-intro (p n) (all n p) (each n (le-refl (suc n))) (all-of n p (λ k h. each k (le-step h)))
+
+pub all-not : (n : ℕ) (p : ℕ → Bool) (k : ℕ) → k < n → p k ≡ false → all n p ≡ false
+all-not n p k h e = refuted→false (all n p) (λ t. false→refuted (p k) e (all-at n p t k h))
+
+-- a loop that counts up: nothing yet, one number more, and the whole range
+pub all-none : (p : ℕ → Bool) → T (all 0 p)
+unfolding all
+all-none p = tt
+
+pub all-more : (i : ℕ) (p : ℕ → Bool) → T (all i p) → p i ≡ true → T (all (i + 1) p)
+unfolding all
+all-more i p t e = rw add-one (and-intro (p i) (all i p) (true→T (p i) e) t)
+
+pub all-whole : (n i : ℕ) (p : ℕ → Bool) → i ≤ n → n ≤ i → T (all i p) → all n p ≡ true
+all-whole n i p under over t =
+    let e : i ≡ n = omega arith in
+    T→true (all n p) (subst (λ (m : ℕ). T (all m p)) e t)
+
+-- ---- some
+
+unfoldable pub any : ℕ → (ℕ → Bool) → Bool
+any zero p = false
+any (suc n) p = p n || any n p
+
+pub any-of : (n : ℕ) (p : ℕ → Bool) (k : ℕ) → k < n → T (p k) → T (any n p)
+unfolding any
+any-of zero p k h t = absurd (not-suc-le-zero h)
+any-of (suc n) p k h t =
+    ⊎-elim (λ e. or-left (p n) (any n p) (subst (λ (m : ℕ). T (p m)) e t))
+    (λ l. or-right (p n) (any n p) (any-of n p k l t))
+    (eq-or-lt-of-le (le-of-suc-le-suc h))
+
+pub any-found : (n : ℕ) (p : ℕ → Bool) → T (any n p) → (k : ℕ) × (k < n) × T (p k)
+unfolding any
+any-found zero p t = absurd t
+any-found (suc n) p t =
+    ⊎-elim (λ s. (n, le-refl (suc n), s))
+    (λ s. let r = any-found n p s in (r .0, le-step (r .1), r .2))
+    (or-cases (p n) (any n p) t)
+
+-- ---- the greatest
+
+unfoldable pub greatest : ℕ → (ℕ → Bool) → Option ℕ
+greatest zero p = none
+greatest (suc n) p = let later = greatest n p in pick (p n) (some n) later
+
+-- k is below n and passes, and nothing between them does
+pub record IsGreatest (n : ℕ) (p : ℕ → Bool) (k : ℕ) : Type 0 where
+  pub below : k < n
+  pub passes : T (p k)
+  pub last : (j : ℕ) → j < n → k < j → T (p j) → ⊥
+
+-- what `greatest` gives: the greatest that passes, or none where nothing does
+pub data Greatest (n : ℕ) (p : ℕ → Bool) : Option ℕ → Type 0 where
+  found : (k : ℕ) → IsGreatest n p k → Greatest n p (some k)
+  nothing : ((k : ℕ) → k < n → T (p k) → ⊥) → Greatest n p none
+
+greater : (n : ℕ) (p : ℕ → Bool) (r : Option ℕ) → (T (p n) → ⊥) → Greatest n p r → Greatest (suc n) p r
+greater n p r not-n (found k g) =
+    found k
+    (record {
+      below = le-step (g .below);
+      passes = g .passes;
+      last = below-suc (λ j. k < j → T (p j) → ⊥) n (g .last) (λ l. not-n)
+    })
+greater n p r not-n (nothing none-passes) = nothing (below-suc (λ j. T (p j) → ⊥) n none-passes not-n)
+
+pub greatest-is : (n : ℕ) (p : ℕ → Bool) → Greatest n p (greatest n p)
+unfolding greatest
+greatest-is zero p = nothing (λ k h. absurd (not-suc-le-zero h))
+greatest-is (suc n) p = go (p n) refl (greatest-is n p)
+  where
+    go : (b : Bool) → p n ≡ b → Greatest n p (greatest n p) → Greatest (suc n) p (pick b (some n) (greatest n p))
+    go true at g = found n (record { below = le-refl (suc n); passes = true→T (p n) at; last = λ j h l. absurd (not-suc-le-self j (lt-of-lt-of-le h l)) })
+    go false at g = greater n p (greatest n p) (false→refuted (p n) at) g
+
+-- ---- how many
+
+unfoldable pub count : ℕ → (ℕ → Bool) → ℕ
+count zero p = 0
+count (suc n) p = count n p + pick (p n) 1 0
+
+pub count-le : (n : ℕ) (p : ℕ → Bool) → count n p ≤ n
+unfolding count
+count-le zero p = le-refl 0
+count-le (suc n) p = go (p n) (count-le n p)
+  where
+    go : (b : Bool) → count n p ≤ n → count n p + pick b 1 0 ≤ suc n
+    go true h = omega arith
+    go false h = omega arith
+
+step-le : (a b : Bool) → (T b → T a) → pick b 1 0 ≤ pick a 1 0
+step-le true true f = le-refl 1
+step-le true false f = omega arith
+step-le false true f = absurd (f tt)
+step-le false false f = le-refl 0
+
+pub count-mono : (n : ℕ) (B A : ℕ → Bool) → Within n B A → count n B ≤ count n A
+unfolding count
+count-mono zero B A w = le-refl 0
+count-mono (suc n) B A w =
+    add-le-add (count-mono n B A (λ j h. w j (le-step h))) (step-le (A n) (B n) (w n (le-refl (suc n))))
+
+-- a set that lacks a member of the other has fewer
+pub count-less : (n : ℕ) (B A : ℕ → Bool) → Within n B A → (k : ℕ) → k < n → T (A k) → (T (B k) → ⊥) → count n B < count n A
+unfolding count
+count-less zero B A w k h a b = absurd (not-suc-le-zero h)
+count-less (suc n) B A w k h a b =
+    ⊎-elim at-n (λ l. add-lt-add-of-lt-of-le (count-less n B A under k l a b) step) (eq-or-lt-of-le (le-of-suc-le-suc h))
+  where
+    under : Within n B A
+    under j l = w j (le-step l)
+    step : pick (B n) 1 0 ≤ pick (A n) 1 0
+    step = step-le (A n) (B n) (w n (le-refl (suc n)))
+    at-n : k ≡ n → count (suc n) B < count (suc n) A
+    at-n e =
+        let a′ = T→true (A n) (subst (λ (m : ℕ). T (A m)) e a) in
+        let b′ = refuted→false (B n) (subst (λ (m : ℕ). T (B m) → ⊥) e b) in
+        rw (a′, b′) (add-lt-add-of-le-of-lt (count-mono n B A under) (le-refl 1))

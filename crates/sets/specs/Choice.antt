@@ -1,0 +1,64 @@
+-- A choice by a test, and tests as facts: `T b` says that the test b passes. Assumes nothing.
+use mathlib.Core.Path.{_≡_, refl}
+use mathlib.Core.Bool.{Bool, true, false, not, _&&_, _||_, true≢false, false≢true}
+use mathlib.Core.Logic.{_⊎_, inl, inr}
+use lib.Dec.{T}
+
+abbrev pub pick {ℓ} : {A : Type ℓ} → Bool → A → A → A
+pick true a b = a
+pick false a b = b
+
+-- ---- a test as an equation
+
+pub T→true : (b : Bool) → T b → b ≡ true
+T→true true t = refl
+T→true false t = absurd t
+
+pub true→T : (b : Bool) → b ≡ true → T b
+true→T true e = tt
+true→T false e = absurd (false≢true e)
+
+pub refuted→false : (b : Bool) → (T b → ⊥) → b ≡ false
+refuted→false true h = absurd (h tt)
+refuted→false false h = refl
+
+pub false→refuted : (b : Bool) → b ≡ false → T b → ⊥
+false→refuted true e t = true≢false e
+false→refuted false e t = t
+
+pub decided : (b : Bool) → T b ⊎ (T b → ⊥)
+decided true = inl tt
+decided false = inr (λ t. t)
+
+-- two tests that pass together are equal
+pub same-test : (a b : Bool) → (T a → T b) → (T b → T a) → a ≡ b
+same-test true true f g = refl
+same-test true false f g = absurd (f tt)
+same-test false true f g = absurd (g tt)
+same-test false false f g = refl
+
+-- ---- both tests, and one of two
+
+pub and-intro : (a b : Bool) → T a → T b → T (a && b)
+and-intro true b s t = t
+and-intro false b s t = s
+
+pub and-left : (a b : Bool) → T (a && b) → T a
+and-left true b t = tt
+and-left false b t = t
+
+pub and-right : (a b : Bool) → T (a && b) → T b
+and-right true b t = t
+and-right false b t = absurd t
+
+pub or-cases : (a b : Bool) → T (a || b) → T a ⊎ T b
+or-cases true b t = inl tt
+or-cases false b t = inr t
+
+pub or-left : (a b : Bool) → T a → T (a || b)
+or-left true b t = tt
+or-left false b t = absurd t
+
+pub or-right : (a b : Bool) → T b → T (a || b)
+or-right true b t = tt
+or-right false b t = t

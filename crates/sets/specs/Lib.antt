@@ -1,0 +1,4 @@
+pub mod Choice
+pub mod Bounded
+pub mod Sum
+pub mod Rank

@@ -1,0 +1,52 @@
+-- Where a number first stands in a list: its rank, the list's length where it does not stand there. Assumes nothing.
+use mathlib.Core.Path.{_≡_, refl}
+use mathlib.Core.Bool.{Bool, true, false}
+use mathlib.Core.List.{List, [], _∷_}
+use mathlib.Core.Logic.{⊎-elim}
+use Prim.Native.Nat.{ℕ, zero, suc, _≤_, _<_, suc-le-suc}
+use native.Mathlib.Nat.{le-refl, not-suc-le-zero, le-of-suc-le-suc, lt-of-le-of-lt, eq-or-lt-of-le}
+use native.Mathlib.Omega.{arith}
+use lib.Dec.{T, eqb, eqb→eq, eqb-refl}
+use lib.ListN.{length, getD}
+use Rattle.sets.specs.Choice.{pick, true→T, T→true}
+
+abbrev pub rank : List ℕ → ℕ → ℕ
+rank [] x = 0
+rank (y ∷ ys) x = let later = suc (rank ys x) in pick (eqb y x) 0 later
+
+-- x stands in the list
+abbrev pub Member : List ℕ → ℕ → Type 0
+Member xs x = rank xs x < length xs
+
+-- no number stands twice
+abbrev pub Distinct : List ℕ → Type 0
+Distinct xs = (i j : ℕ) → i < j → j < length xs → getD xs i 0 ≡ getD xs j 0 → ⊥
+
+-- what stands at a member's rank is that member
+pub getD-rank : (xs : List ℕ) (x : ℕ) → Member xs x → getD xs (rank xs x) 0 ≡ x
+getD-rank [] x m = absurd (not-suc-le-zero m)
+getD-rank (y ∷ ys) x m = go (eqb y x) refl (getD-rank ys x) m
+  where
+    go : (b : Bool) → eqb y x ≡ b → (Member ys x → getD ys (rank ys x) 0 ≡ x) → pick b 0 (suc (rank ys x)) < suc (length ys) → getD (y ∷ ys) (pick b 0 (suc (rank ys x))) 0 ≡ x
+    go true e f h = eqb→eq y x (true→T (eqb y x) e)
+    go false e f h = f (le-of-suc-le-suc h)
+
+-- a number stands nowhere before its rank
+pub rank-le : (xs : List ℕ) (i : ℕ) → i < length xs → rank xs (getD xs i 0) ≤ i
+rank-le [] i h = absurd (not-suc-le-zero h)
+rank-le (y ∷ ys) zero h = rw (T→true (eqb y y) (eqb-refl y)) (le-refl 0)
+rank-le (y ∷ ys) (suc i) h = go (eqb y (getD ys i 0)) (rank-le ys i (le-of-suc-le-suc h))
+  where
+    go : (b : Bool) → rank ys (getD ys i 0) ≤ i → pick b 0 (suc (rank ys (getD ys i 0))) ≤ suc i
+    go true l = omega arith
+    go false l = suc-le-suc l
+
+-- so what stands in a list is a member
+pub getD-member : (xs : List ℕ) (i : ℕ) → i < length xs → Member xs (getD xs i 0)
+getD-member xs i h = lt-of-le-of-lt (rank-le xs i h) h
+
+-- where no number stands twice, an entry's rank is its index
+pub rank-getD : (xs : List ℕ) → Distinct xs → (i : ℕ) → i < length xs → rank xs (getD xs i 0) ≡ i
+rank-getD xs distinct i h =
+    ⊎-elim (λ e. e) (λ l. absurd (distinct (rank xs (getD xs i 0)) i l h (getD-rank xs (getD xs i 0) (getD-member xs i h))))
+    (eq-or-lt-of-le (rank-le xs i h))

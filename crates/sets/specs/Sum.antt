@@ -1,0 +1,81 @@
+-- Sums and maxima over a marked set of the numbers below a bound. Assumes nothing.
+use mathlib.Core.Path.{_≡_, refl, sym, _∙_}
+use mathlib.Core.Bool.{Bool, true, false}
+use Prim.Native.Nat.{ℕ, zero, suc, _+_, _*_, _≤_, _<_, max}
+use native.Mathlib.Nat.{le-refl, le-step, le-trans, le-of-eq, not-suc-le-zero, add-le-add, mul-zero, zero-mul, suc-mul, mul-add, max-le, le-max-left, le-max-right}
+use native.Mathlib.Numerals.{add-one}
+use native.Mathlib.Omega.{arith}
+use lib.Dec.{T}
+use Rattle.sets.specs.Choice.{pick}
+use Rattle.sets.specs.Bounded.{Within, below-suc}
+
+-- ---- the sum of f over the numbers below n that are in A
+
+unfoldable pub sum : ℕ → (ℕ → Bool) → (ℕ → ℕ) → ℕ
+sum zero A f = 0
+sum (suc n) A f = sum n A f + pick (A n) (f n) 0
+
+-- a loop that counts up: nothing yet, and one number more
+pub sum-none : (A : ℕ → Bool) (f : ℕ → ℕ) → sum 0 A f ≡ 0
+unfolding sum
+sum-none A f = refl
+
+pub sum-more : (i : ℕ) (A : ℕ → Bool) (f : ℕ → ℕ) → sum (i + 1) A f ≡ sum i A f + pick (A i) (f i) 0
+unfolding sum
+sum-more i A f = rw add-one
+
+term-mono : (b a : Bool) (x y : ℕ) → (T b → T a) → (T b → x ≤ y) → pick b x 0 ≤ pick a y 0
+term-mono true true x y f g = g tt
+term-mono true false x y f g = absurd (f tt)
+term-mono false true x y f g = omega arith
+term-mono false false x y f g = le-refl 0
+
+-- fewer members and smaller terms give a smaller sum
+pub sum-mono : (n : ℕ) (B A : ℕ → Bool) (f g : ℕ → ℕ) → Within n B A → ((j : ℕ) → j < n → T (B j) → f j ≤ g j) → sum n B f ≤ sum n A g
+unfolding sum
+sum-mono zero B A f g w h = le-refl 0
+sum-mono (suc n) B A f g w h =
+    add-le-add (sum-mono n B A f g (λ j l. w j (le-step l)) (λ j l. h j (le-step l)))
+    (term-mono (B n) (A n) (f n) (g n) (w n (le-refl (suc n))) (h n (le-refl (suc n))))
+
+-- terms of at most b each
+pub sum-le : (n : ℕ) (A : ℕ → Bool) (f : ℕ → ℕ) (b : ℕ) → ((j : ℕ) → j < n → T (A j) → f j ≤ b) → sum n A f ≤ n * b
+unfolding sum
+sum-le zero A f b h = omega (arith, zero-mul b)
+sum-le (suc n) A f b h =
+    rw suc-mul
+    (add-le-add (sum-le n A f b (λ j l. h j (le-step l))) (term-mono (A n) true (f n) b (λ t. tt) (h n (le-refl (suc n)))))
+
+term-scaled : (a : Bool) (x y v k : ℕ) → (T a → v * x ≤ k * y) → v * pick a x 0 ≤ k * pick a y 0
+term-scaled true x y v k h = h tt
+term-scaled false x y v k h = le-of-eq (mul-zero v ∙ sym (mul-zero k))
+
+-- where v · f ≤ k · g at each member, the sums stand so too
+pub sum-scaled : (n : ℕ) (A : ℕ → Bool) (f g : ℕ → ℕ) (v k : ℕ) → ((j : ℕ) → j < n → T (A j) → v * f j ≤ k * g j) → v * sum n A f ≤ k * sum n A g
+unfolding sum
+sum-scaled zero A f g v k h = le-of-eq (mul-zero v ∙ sym (mul-zero k))
+sum-scaled (suc n) A f g v k h =
+    simp mul-add
+    (add-le-add (sum-scaled n A f g v k (λ j l. h j (le-step l))) (term-scaled (A n) (f n) (g n) v k (h n (le-refl (suc n)))))
+
+-- ---- the greatest f over the numbers below n that are in A, 0 where there is none
+
+unfoldable pub most : ℕ → (ℕ → Bool) → (ℕ → ℕ) → ℕ
+most zero A f = 0
+most (suc n) A f = max (most n A f) (pick (A n) (f n) 0)
+
+pub most-at : (n : ℕ) (A : ℕ → Bool) (f : ℕ → ℕ) (j : ℕ) → j < n → T (A j) → f j ≤ most n A f
+unfolding most
+most-at zero A f j h = absurd (not-suc-le-zero h)
+most-at (suc n) A f j h =
+    below-suc (λ k. T (A k) → f k ≤ most (suc n) A f) n
+    (λ k l t. le-trans (most-at n A f k l t) (le-max-left (most n A f) (pick (A n) (f n) 0)))
+    (λ t. le-trans (term-mono true (A n) (f n) (f n) (λ s. t) (λ s. le-refl (f n))) (le-max-right (most n A f) (pick (A n) (f n) 0)))
+    j h
+
+-- members of at most b each
+pub most-le : (n : ℕ) (A : ℕ → Bool) (f : ℕ → ℕ) (b : ℕ) → ((j : ℕ) → j < n → T (A j) → f j ≤ b) → most n A f ≤ b
+unfolding most
+most-le zero A f b h = omega arith
+most-le (suc n) A f b h =
+    max-le (most-le n A f b (λ j l. h j (le-step l))) (term-mono (A n) true (f n) b (λ t. tt) (h n (le-refl (suc n))))

@@ -1,0 +1,1 @@
+// Definitions and laws only, in specs/: this crate has no code.

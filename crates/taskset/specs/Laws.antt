@@ -1,0 +1,128 @@
+-- Laws of the refusals and of adding, for proofs to cite. Assumes nothing.
+use mathlib.Core.Path.{_≡_, refl, sym, _∙_}
+use mathlib.Core.Bool.{Bool, true, false, not, _||_, _&&_}
+use mathlib.Core.List.{List, [], _∷_, _++_}
+use Prim.Native.Nat.{ℕ, zero, suc, _≤_, _<_}
+use native.Mathlib.Nat.{suc-ne-zero}
+use native.Mathlib.Omega.{arith}
+use lib.Dec.{T, ltb, leb, eqb, ltb→lt}
+use borrow.Author.Tests.{ltb-false, leb-false, le-leb, lt-leb, ne-eqb}
+use Rattle.sets.specs.Choice.{pick}
+use Rattle.taskset.specs.declared.Task.{Task}
+use Rattle.taskset.specs.declared.Rule.{Rule}
+use Rattle.taskset.specs.declared.TaskSet.{TaskSet}
+use Rattle.taskset.specs.declared.Added.{Added}
+use Rattle.taskset.specs.Rows.{maxTasks, maxRules, firstOf, outside, rowRefusals, indexRefusals, taskRefusal, ruleRefusal}
+use Rattle.taskset.specs.Adding.{isMade, adding}
+
+-- ---- ranges
+
+or-false-left : (a b : Bool) → (a || b) ≡ false → a ≡ false
+or-false-left true b e = e
+or-false-left false b e = refl
+
+or-false-right : (a b : Bool) → (a || b) ≡ false → b ≡ false
+or-false-right true b e = absurd (mathlib.Core.Bool.true≢false e)
+or-false-right false b e = e
+
+pub outside-low : (low high x : ℕ) → outside low high x ≡ false → low ≤ x
+outside-low low high x e = ltb-false x low (or-false-left (ltb x low) (ltb high x) e)
+
+pub outside-high : (low high x : ℕ) → outside low high x ≡ false → x ≤ high
+outside-high low high x e = ltb-false high x (or-false-right (ltb x low) (ltb high x) e)
+
+-- ---- the first refusal of a list and of what follows it
+
+-- every refusal has a number above 0
+abbrev pub Numbered : List (ℕ × Bool) → Type 0
+Numbered [] = Unit {0}
+Numbered (r ∷ rs) = T (ltb 0 (r .0)) × Numbered rs
+
+pub row-numbered : (t : Task) → Numbered (rowRefusals t)
+unfolding rowRefusals
+row-numbered t = (tt, (tt, (tt, (tt, (tt, tt)))))
+
+pub index-numbered : (n : ℕ) (r : Rule) → Numbered (indexRefusals n r)
+unfolding indexRefusals
+index-numbered n r = (tt, (tt, tt))
+
+pub first-append : (xs ys : List (ℕ × Bool)) → Numbered xs → firstOf (xs ++ ys) ≡ pick (eqb (firstOf xs) 0) (firstOf ys) (firstOf xs)
+first-append [] ys h = refl
+first-append (x ∷ xs) ys h = go (x .1) (first-append xs ys (h .1))
+  where
+    go : (b : Bool) → firstOf (xs ++ ys) ≡ pick (eqb (firstOf xs) 0) (firstOf ys) (firstOf xs)
+      → pick b (x .0) (firstOf (xs ++ ys)) ≡ pick (eqb (pick b (x .0) (firstOf xs)) 0) (firstOf ys) (pick b (x .0) (firstOf xs))
+    go true e = let l = ltb→lt 0 (x .0) (h .0) in rw (ne-eqb (x .0) 0 (λ z. omega arith))
+    go false e = e
+
+-- ---- the answers of an adding call: refused by 14, refused by its arguments, taken
+
+pub adding-14 : (s : TaskSet) (k : ℕ) (new : TaskSet) → isMade s ≡ false → record { refusal = 14; set = s } ≡ adding s k new
+unfolding adding
+adding-14 s k new e = rw e
+
+pub adding-refused : (s : TaskSet) (k : ℕ) (new : TaskSet) → isMade s ≡ true → (n : ℕ) → n ≡ k → (n ≡ 0 → ⊥) → record { refusal = n; set = s } ≡ adding s k new
+unfolding adding
+adding-refused s k new e n f nonzero = rw (e, ← f, ne-eqb n 0 nonzero)
+
+pub adding-taken : (s : TaskSet) (k : ℕ) (new : TaskSet) → isMade s ≡ true → k ≡ 0 → record { refusal = 0; set = new } ≡ adding s k new
+unfolding adding
+adding-taken s k new e f = rw (e, f)
+
+-- ---- the refusal of a task or a rule: by its arguments, as the list is full, or none
+
+module _ (xs : List (ℕ × Bool)) (numbered : Numbered xs) (k size limit : ℕ) where
+  abbrev both : List (ℕ × Bool)
+  both = xs ++ (k, leb limit size) ∷ []
+
+  by-arguments : (n : ℕ) → n ≡ firstOf xs → (n ≡ 0 → ⊥) → n ≡ firstOf both
+  by-arguments n e nonzero = rw (first-append xs ((k, leb limit size) ∷ []) numbered, ← e, ne-eqb n 0 nonzero)
+
+  when-full : firstOf xs ≡ 0 → limit ≤ size → k ≡ firstOf both
+  when-full e h = rw (first-append xs ((k, leb limit size) ∷ []) numbered, e, le-leb limit size h)
+
+  when-taken : firstOf xs ≡ 0 → size < limit → 0 ≡ firstOf both
+  when-taken e h = rw (first-append xs ((k, leb limit size) ∷ []) numbered, e, lt-leb limit size h)
+
+  -- what is taken has no refusal of its arguments, and room
+  taken-only : 0 < k → firstOf both ≡ 0 → (firstOf xs ≡ 0) × (size < limit)
+  taken-only positive e = go (firstOf xs) (leb limit size) refl refl (sym (first-append xs ((k, leb limit size) ∷ []) numbered) ∙ e)
+    where
+      go : (n : ℕ) (b : Bool) → firstOf xs ≡ n → leb limit size ≡ b → pick (eqb n 0) (pick b k 0) n ≡ 0 → (firstOf xs ≡ 0) × (size < limit)
+      go zero true f l z = absurd (omega arith)
+      go zero false f l z = (f, leb-false limit size l)
+      go (suc n) b f l z = absurd (omega (arith, rw (ne-eqb (suc n) 0 (suc-ne-zero n)) at z))
+
+module _ (c : ℕ) (t : Task) where
+  pub task-by-row : (n : ℕ) → n ≡ firstOf (rowRefusals t) → (n ≡ 0 → ⊥) → n ≡ taskRefusal c t
+  unfolding taskRefusal
+  task-by-row = by-arguments (rowRefusals t) (row-numbered t) 10 c maxTasks
+
+  pub task-full : firstOf (rowRefusals t) ≡ 0 → maxTasks ≤ c → 10 ≡ taskRefusal c t
+  unfolding taskRefusal
+  task-full = when-full (rowRefusals t) (row-numbered t) 10 c maxTasks
+
+  pub task-taken : firstOf (rowRefusals t) ≡ 0 → c < maxTasks → 0 ≡ taskRefusal c t
+  unfolding taskRefusal
+  task-taken = when-taken (rowRefusals t) (row-numbered t) 10 c maxTasks
+
+  pub task-taken-only : taskRefusal c t ≡ 0 → (firstOf (rowRefusals t) ≡ 0) × (c < maxTasks)
+  unfolding taskRefusal
+  task-taken-only = taken-only (rowRefusals t) (row-numbered t) 10 c maxTasks (omega arith)
+
+module _ (c m : ℕ) (r : Rule) where
+  pub rule-by-index : (n : ℕ) → n ≡ firstOf (indexRefusals c r) → (n ≡ 0 → ⊥) → n ≡ ruleRefusal c m r
+  unfolding ruleRefusal
+  rule-by-index = by-arguments (indexRefusals c r) (index-numbered c r) 12 m maxRules
+
+  pub rule-full : firstOf (indexRefusals c r) ≡ 0 → maxRules ≤ m → 12 ≡ ruleRefusal c m r
+  unfolding ruleRefusal
+  rule-full = when-full (indexRefusals c r) (index-numbered c r) 12 m maxRules
+
+  pub rule-taken : firstOf (indexRefusals c r) ≡ 0 → m < maxRules → 0 ≡ ruleRefusal c m r
+  unfolding ruleRefusal
+  rule-taken = when-taken (indexRefusals c r) (index-numbered c r) 12 m maxRules
+
+  pub rule-taken-only : ruleRefusal c m r ≡ 0 → (firstOf (indexRefusals c r) ≡ 0) × (m < maxRules)
+  unfolding ruleRefusal
+  rule-taken-only = taken-only (indexRefusals c r) (index-numbered c r) 12 m maxRules (omega arith)

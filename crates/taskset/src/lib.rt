@@ -1,0 +1,260 @@
+// Task sets: document 01's sheet, with adding a task and a rule, and refusal 14.
+
+ghost use mathlib.Core.Path.{_≡_};
+ghost use Rattle.sets.specs.Bounded.{all};
+ghost use Rattle.taskset.specs.Rows.{maxTasks, maxRules, firstOf, outside, rowRefusals, indexRefusals, taskRefusal, ruleRefusal};
+ghost use Rattle.taskset.specs.Adding.{freshSet, isBlankTask, isBlankRule, taskFits, ruleFits, taskEntry, ruleEntry, isMade, addTask, addRule};
+
+pub const MAX_TASKS: usize = 64;
+pub const MAX_RULES: usize = 128;
+pub const MAX_PERIOD: u64 = 1000000;
+
+// A task's place in its set, counted from 0 in the order of adding.
+pub struct TaskIndex(pub usize);
+
+// A priority level: 0 is the highest.
+pub struct PriorityLevel(pub usize);
+
+// A row, in whole microseconds.
+pub struct Task {
+    pub period: u64,
+    pub execution: u64,
+    pub deadline: u64,
+    pub jitter: u64,
+    pub blocking: u64,
+}
+
+// The task `higher` has a higher priority than the task `lower`.
+pub struct Rule {
+    pub higher: TaskIndex,
+    pub lower: TaskIndex,
+}
+
+// Document 01's sheet: the first ntasks tasks and the first nrules rules are used, the others are all zeros.
+pub struct TaskSet {
+    pub tasks: [Task; MAX_TASKS],
+    pub ntasks: usize,
+    pub rules: [Rule; MAX_RULES],
+    pub nrules: usize,
+}
+
+// What an adding call answers: the refusal's number, 0 where it is taken, and the set after the call.
+pub struct Added {
+    pub refusal: u64,
+    pub set: TaskSet,
+}
+
+// x is not one of low to high.
+fn outside(low: u64, high: u64, x: u64) -> bool
+    ensures { λ r. ⌜ r ≡ outside low high x ⌝ }
+{
+    (x < low) | (high < x)
+}
+
+// The first of refusals 1 to 5 that a row meets, 0 where it meets none.
+fn row_refusal(t: Task) -> u64
+    ensures { λ r. ⌜ r ≡ firstOf (rowRefusals t) ⌝ }
+{
+    let period = t.period;
+    if outside(1, MAX_PERIOD, period) {
+        return 1;
+    }
+    if outside(1, period, t.execution) {
+        return 2;
+    }
+    if outside(1, period, t.deadline) {
+        return 3;
+    }
+    if outside(0, period - 1, t.jitter) {
+        return 4;
+    }
+    if outside(0, period, t.blocking) {
+        return 5;
+    }
+    0
+}
+
+// The first of refusals 6 and 11 that a rule meets in a set of n tasks, 0 where it meets none.
+fn index_refusal(n: usize, r: Rule) -> u64
+    ensures { λ q. ⌜ q ≡ firstOf (indexRefusals n r) ⌝ }
+{
+    let higher = r.higher.0;
+    let lower = r.lower.0;
+    if higher == lower {
+        return 6;
+    }
+    if (n <= higher) | (n <= lower) {
+        return 11;
+    }
+    0
+}
+
+// The refusal of a task added to n tasks: 1 to 5, then 10; 0 where it is taken.
+fn task_refusal(n: usize, t: Task) -> u64
+    ensures { λ r. ⌜ r ≡ taskRefusal n t ⌝ }
+{
+    let refusal = row_refusal(t);
+    if refusal != 0 {
+        return refusal;
+    }
+    if MAX_TASKS <= n {
+        return 10;
+    }
+    0
+}
+
+// The refusal of a rule added to n tasks and m rules: 6, 11, then 12; 0 where it is taken.
+fn rule_refusal(n: usize, m: usize, r: Rule) -> u64
+    ensures { λ q. ⌜ q ≡ ruleRefusal n m r ⌝ }
+{
+    let refusal = index_refusal(n, r);
+    if refusal != 0 {
+        return refusal;
+    }
+    if MAX_RULES <= m {
+        return 12;
+    }
+    0
+}
+
+// All zeros.
+fn is_blank_task(t: Task) -> bool
+    ensures { λ r. ⌜ r ≡ isBlankTask t ⌝ }
+{
+    (t.period == 0) & (t.execution == 0) & (t.deadline == 0) & (t.jitter == 0) & (t.blocking == 0)
+}
+
+fn is_blank_rule(r: Rule) -> bool
+    ensures { λ q. ⌜ q ≡ isBlankRule r ⌝ }
+{
+    (r.higher.0 == 0) & (r.lower.0 == 0)
+}
+
+// An entry of the task list: a row that adding takes where it is used, all zeros where it is not.
+fn task_fits(used: bool, t: Task) -> bool
+    ensures { λ r. ⌜ r ≡ taskFits used t ⌝ }
+{
+    if used {
+        return row_refusal(t) == 0;
+    }
+    is_blank_task(t)
+}
+
+fn rule_fits(n: usize, used: bool, r: Rule) -> bool
+    ensures { λ q. ⌜ q ≡ ruleFits n used r ⌝ }
+{
+    if used {
+        return index_refusal(n, r) == 0;
+    }
+    is_blank_rule(r)
+}
+
+// Every entry of a task list of which the first n are used.
+fn task_entries(tasks: [Task; MAX_TASKS], n: usize) -> bool
+    ensures { λ r. ⌜ r ≡ all maxTasks (taskEntry n tasks) ⌝ }
+{
+    let mut i = 0;
+    while i < MAX_TASKS {
+        if !task_fits(i < n, tasks[i]) {
+            return false;
+        }
+        i += 1;
+    }
+    true
+}
+
+// Every entry of a rule list of which the first m are used, over n tasks.
+fn rule_entries(rules: [Rule; MAX_RULES], n: usize, m: usize) -> bool
+    ensures { λ r. ⌜ r ≡ all maxRules (ruleEntry n m rules) ⌝ }
+{
+    let mut i = 0;
+    while i < MAX_RULES {
+        if !rule_fits(n, i < m, rules[i]) {
+            return false;
+        }
+        i += 1;
+    }
+    true
+}
+
+impl TaskSet {
+    // An empty task set.
+    pub fn fresh() -> TaskSet
+        ensures { λ r. ⌜ r ≡ freshSet ⌝ }
+    {
+        let task = Task {
+            period: 0,
+            execution: 0,
+            deadline: 0,
+            jitter: 0,
+            blocking: 0,
+        };
+        let rule = Rule {
+            higher: TaskIndex(0),
+            lower: TaskIndex(0),
+        };
+        TaskSet {
+            tasks: [task; MAX_TASKS],
+            ntasks: 0,
+            rules: [rule; MAX_RULES],
+            nrules: 0,
+        }
+    }
+
+    // Some list of adding calls makes this set; if not, every call refuses it with 14.
+    pub fn is_made(self) -> bool
+        ensures { λ r. ⌜ r ≡ isMade self ⌝ }
+    {
+        let n = self.ntasks;
+        let m = self.nrules;
+        if MAX_TASKS < n {
+            return false;
+        }
+        if MAX_RULES < m {
+            return false;
+        }
+        let tasks = self.tasks;
+        if !task_entries(tasks, n) {
+            return false;
+        }
+        let rules = self.rules;
+        rule_entries(rules, n, m)
+    }
+
+    // Refusals 14, 1 to 5, 10.
+    pub fn add_task(self, task: Task) -> Added
+        ensures { λ r. ⌜ r ≡ addTask self task ⌝ }
+    {
+        if !self.is_made() {
+            return Added { refusal: 14, set: self };
+        }
+        let n = self.ntasks;
+        let refusal = task_refusal(n, task);
+        if refusal != 0 {
+            return Added { refusal, set: self };
+        }
+        let mut set = self;
+        set.tasks[n] = task;
+        set.ntasks = n + 1;
+        Added { refusal: 0, set }
+    }
+
+    // Refusals 14, 6, 11, 12.
+    pub fn add_rule(self, rule: Rule) -> Added
+        ensures { λ r. ⌜ r ≡ addRule self rule ⌝ }
+    {
+        if !self.is_made() {
+            return Added { refusal: 14, set: self };
+        }
+        let n = self.ntasks;
+        let m = self.nrules;
+        let refusal = rule_refusal(n, m, rule);
+        if refusal != 0 {
+            return Added { refusal, set: self };
+        }
+        let mut set = self;
+        set.rules[m] = rule;
+        set.nrules = m + 1;
+        Added { refusal: 0, set }
+    }
+}

@@ -12,8 +12,8 @@ use lib.Dec.{T}
 use Rattle.sets.specs.Choice.{pick, and-intro, and-left, and-right, or-cases, or-left, or-right, T→true, true→T, refuted→false, false→refuted}
 
 -- every number below n that is in B is in A
-abbrev pub Within : ℕ → (ℕ → Bool) → (ℕ → Bool) → Type 0
-Within n B A = (j : ℕ) → j < n → T (B j) → T (A j)
+abbrev pub Subset : ℕ → (ℕ → Bool) → (ℕ → Bool) → Type 0
+Subset n B A = (j : ℕ) → j < n → T (B j) → T (A j)
 
 -- what holds below n and at n holds below suc n
 pub below-suc : (P : ℕ → Type 0) (n : ℕ) → ((k : ℕ) → k < n → P k) → P n → (k : ℕ) → k < suc n → P k
@@ -134,20 +134,20 @@ step-le true false f = omega arith
 step-le false true f = absurd (f tt)
 step-le false false f = le-refl 0
 
-pub count-mono : (n : ℕ) (B A : ℕ → Bool) → Within n B A → count n B ≤ count n A
+pub count-mono : (n : ℕ) (B A : ℕ → Bool) → Subset n B A → count n B ≤ count n A
 unfolding count
 count-mono zero B A w = le-refl 0
 count-mono (suc n) B A w =
     add-le-add (count-mono n B A (λ j h. w j (le-step h))) (step-le (A n) (B n) (w n (le-refl (suc n))))
 
 -- a set that lacks a member of the other has fewer
-pub count-less : (n : ℕ) (B A : ℕ → Bool) → Within n B A → (k : ℕ) → k < n → T (A k) → (T (B k) → ⊥) → count n B < count n A
+pub count-less : (n : ℕ) (B A : ℕ → Bool) → Subset n B A → (k : ℕ) → k < n → T (A k) → (T (B k) → ⊥) → count n B < count n A
 unfolding count
 count-less zero B A w k h a b = absurd (not-suc-le-zero h)
 count-less (suc n) B A w k h a b =
     ⊎-elim at-n (λ l. add-lt-add-of-lt-of-le (count-less n B A under k l a b) step) (eq-or-lt-of-le (le-of-suc-le-suc h))
   where
-    under : Within n B A
+    under : Subset n B A
     under j l = w j (le-step l)
     step : pick (B n) 1 0 ≤ pick (A n) 1 0
     step = step-le (A n) (B n) (w n (le-refl (suc n)))

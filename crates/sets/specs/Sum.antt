@@ -7,7 +7,7 @@ use native.Mathlib.Numerals.{add-one}
 use native.Mathlib.Omega.{arith}
 use lib.Dec.{T}
 use Rattle.sets.specs.Choice.{pick}
-use Rattle.sets.specs.Bounded.{Within, below-suc}
+use Rattle.sets.specs.Bounded.{Subset, below-suc}
 
 -- ---- the sum of f over the numbers below n that are in A
 
@@ -31,7 +31,7 @@ term-mono false true x y f g = omega arith
 term-mono false false x y f g = le-refl 0
 
 -- fewer members and smaller terms give a smaller sum
-pub sum-mono : (n : ℕ) (B A : ℕ → Bool) (f g : ℕ → ℕ) → Within n B A → ((j : ℕ) → j < n → T (B j) → f j ≤ g j) → sum n B f ≤ sum n A g
+pub sum-mono : (n : ℕ) (B A : ℕ → Bool) (f g : ℕ → ℕ) → Subset n B A → ((j : ℕ) → j < n → T (B j) → f j ≤ g j) → sum n B f ≤ sum n A g
 unfolding sum
 sum-mono zero B A f g w h = le-refl 0
 sum-mono (suc n) B A f g w h =

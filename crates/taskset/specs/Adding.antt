@@ -37,20 +37,17 @@ taskFits used t = pick used (eqb (firstOf (rowRefusals t)) 0) (isBlankTask t)
 unfoldable pub ruleFits : ℕ → Bool → Rule → Bool
 ruleFits n used r = pick used (eqb (firstOf (indexRefusals n r)) 0) (isBlankRule r)
 
--- entry i of the tasks, of which n are used, and of the rules over n tasks, of which m are used
-abbrev pub taskEntry : ℕ → List Task → ℕ → Bool
-taskEntry n tasks i = taskFits (ltb i n) (getD tasks i blankTask)
-
-abbrev pub ruleEntry : ℕ → ℕ → List Rule → ℕ → Bool
-ruleEntry n m rules i = ruleFits n (ltb i m) (getD rules i blankRule)
+-- entry i of an array of which n entries are used
+abbrev pub entry : {A : Type 0} → (Bool → A → Bool) → A → ℕ → List A → ℕ → Bool
+entry fits blank n xs i = fits (ltb i n) (getD xs i blank)
 
 -- counts within their limits, and every entry as it should be; anything else is refusal 14
 unfoldable pub isMade : TaskSet → Bool
 isMade s =
     leb (s .ntasks) maxTasks
     && leb (s .nrules) maxRules
-    && all maxTasks (taskEntry (s .ntasks) (s .tasks))
-    && all maxRules (ruleEntry (s .ntasks) (s .nrules) (s .rules))
+    && all maxTasks (entry taskFits blankTask (s .ntasks) (s .tasks))
+    && all maxRules (entry (ruleFits (s .ntasks)) blankRule (s .nrules) (s .rules))
 
 -- ---- adding
 

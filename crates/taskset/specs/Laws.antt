@@ -2,17 +2,17 @@
 use mathlib.Core.Path.{_≡_, refl, sym, _∙_}
 use mathlib.Core.Bool.{Bool, true, false, not, _||_, _&&_}
 use mathlib.Core.List.{List, [], _∷_, _++_}
-use Prim.Native.Nat.{ℕ, zero, suc, _≤_, _<_}
+use Prim.Native.Nat.{ℕ, zero, suc, _-_, _≤_, _<_}
 use native.Mathlib.Nat.{suc-ne-zero}
 use native.Mathlib.Omega.{arith}
 use lib.Dec.{T, ltb, leb, eqb, ltb→lt}
-use borrow.Author.Tests.{ltb-false, leb-false, le-leb, lt-leb, ne-eqb}
+use borrow.Author.Tests.{ltb-false, leb-false, eqb-false, le-ltb, le-leb, lt-leb, ne-eqb}
 use Rattle.sets.specs.Choice.{pick}
 use Rattle.taskset.specs.declared.Task.{Task}
 use Rattle.taskset.specs.declared.Rule.{Rule}
 use Rattle.taskset.specs.declared.TaskSet.{TaskSet}
 use Rattle.taskset.specs.declared.Added.{Added}
-use Rattle.taskset.specs.Rows.{maxTasks, maxRules, firstOf, outside, rowRefusals, indexRefusals, taskRefusal, ruleRefusal}
+use Rattle.taskset.specs.Rows.{maxTasks, maxRules, maxPeriod, InRanges, Between, firstOf, outside, rowRefusals, indexRefusals, taskRefusal, ruleRefusal}
 use Rattle.taskset.specs.Adding.{isMade, adding}
 
 -- ---- ranges
@@ -54,6 +54,59 @@ first-append (x ∷ xs) ys h = go (x .1) (first-append xs ys (h .1))
       → pick b (x .0) (firstOf (xs ++ ys)) ≡ pick (eqb (pick b (x .0) (firstOf xs)) 0) (firstOf ys) (pick b (x .0) (firstOf xs))
     go true e = let l = ltb→lt 0 (x .0) (h .0) in rw (ne-eqb (x .0) 0 (λ z. omega arith))
     go false e = e
+
+-- ---- no refusal means within the ranges
+
+passed : (b : Bool) (k rest : ℕ) → T (ltb 0 k) → pick b k rest ≡ 0 → (b ≡ false) × (rest ≡ 0)
+passed true k rest h e = absurd (omega (arith, ltb→lt 0 k h))
+passed false k rest h e = (refl, e)
+
+pub row-accepted : (t : Task) → firstOf (rowRefusals t) ≡ 0 → InRanges t
+unfolding rowRefusals
+row-accepted t e =
+    let p = passed _ 1 _ tt e in
+    let c = passed _ 2 _ tt (p .1) in
+    let d = passed _ 3 _ tt (c .1) in
+    let j = passed _ 4 _ tt (d .1) in
+    let b = passed _ 5 _ tt (j .1) in
+    let low = outside-low 1 maxPeriod (t .period) (p .0) in
+    let under = outside-high 0 (t .period - 1) (t .jitter) (j .0) in
+    record {
+      period = (low, outside-high 1 maxPeriod (t .period) (p .0));
+      execution = (outside-low 1 (t .period) (t .execution) (c .0), outside-high 1 (t .period) (t .execution) (c .0));
+      deadline = (outside-low 1 (t .period) (t .deadline) (d .0), outside-high 1 (t .period) (t .deadline) (d .0));
+      jitter = omega arith;
+      blocking = outside-high 0 (t .period) (t .blocking) (b .0)
+    }
+
+inside : (low high x : ℕ) → low ≤ x → x ≤ high → outside low high x ≡ false
+inside low high x l h = rw (le-ltb x low l, le-ltb high x h)
+
+pub row-accepts : (t : Task) → InRanges t → firstOf (rowRefusals t) ≡ 0
+unfolding rowRefusals
+row-accepts t r =
+    rw (
+      inside 1 maxPeriod (t .period) (r .period .0) (r .period .1),
+      inside 1 (t .period) (t .execution) (r .execution .0) (r .execution .1),
+      inside 1 (t .period) (t .deadline) (r .deadline .0) (r .deadline .1),
+      inside 0 (t .period - 1) (t .jitter) (omega arith) (omega arith),
+      inside 0 (t .period) (t .blocking) (omega arith) (r .blocking)
+    )
+
+pub rule-accepted : (n : ℕ) (r : Rule) → firstOf (indexRefusals n r) ≡ 0 → Between n r
+unfolding indexRefusals
+rule-accepted n r e =
+    let same = passed _ 6 _ tt e in
+    let missing = passed _ 11 _ tt (same .1) in
+    record {
+      apart = eqb-false _ _ (same .0);
+      higher = leb-false n _ (or-false-left (leb n (r .higher .0)) (leb n (r .lower .0)) (missing .0));
+      lower = leb-false n _ (or-false-right (leb n (r .higher .0)) (leb n (r .lower .0)) (missing .0))
+    }
+
+pub rule-accepts : (n : ℕ) (r : Rule) → Between n r → firstOf (indexRefusals n r) ≡ 0
+unfolding indexRefusals
+rule-accepts n r b = rw (ne-eqb _ _ (b .apart), lt-leb n _ (b .higher), lt-leb n _ (b .lower))
 
 -- ---- the answers of an adding call: refused by 14, refused by its arguments, taken
 

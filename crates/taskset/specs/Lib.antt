@@ -1,3 +1,5 @@
 pub mod Rows
 pub mod Adding
+pub mod Calls
 pub mod Laws
+pub mod Exact

@@ -1,9 +1,10 @@
 -- Document 01, "The sheet" and "Refusals": sizes, the ranges of a row, and which refusal a row or a rule meets.
 -- A refusal is a number and whether it applies; of a list of refusals the first that applies is given, and 0 means taken.
 -- Assumes nothing.
-use mathlib.Core.Bool.{Bool, true, false, _&&_, _||_}
+use mathlib.Core.Path.{_≡_}
+use mathlib.Core.Bool.{Bool, _||_}
 use mathlib.Core.List.{List, [], _∷_, _++_}
-use Prim.Native.Nat.{ℕ, _-_}
+use Prim.Native.Nat.{ℕ, _-_, _≤_, _<_}
 use lib.Dec.{leb, ltb, eqb}
 use Rattle.sets.specs.Choice.{pick}
 use Rattle.taskset.specs.declared.Task.{Task}
@@ -42,6 +43,19 @@ rowRefusals t =
 unfoldable pub indexRefusals : ℕ → Rule → List (ℕ × Bool)
 indexRefusals n r =
     (6, eqb (r .higher .0) (r .lower .0)) ∷ (11, leb n (r .higher .0) || leb n (r .lower .0)) ∷ []
+
+-- the same as facts: a row within its ranges, a rule between two tasks of n
+pub record InRanges (t : Task) : Type 0 where
+  pub period : (1 ≤ t .period) × (t .period ≤ maxPeriod)
+  pub execution : (1 ≤ t .execution) × (t .execution ≤ t .period)
+  pub deadline : (1 ≤ t .deadline) × (t .deadline ≤ t .period)
+  pub jitter : t .jitter < t .period
+  pub blocking : t .blocking ≤ t .period
+
+pub record Between (n : ℕ) (r : Rule) : Type 0 where
+  pub apart : r .higher .0 ≡ r .lower .0 → ⊥
+  pub higher : r .higher .0 < n
+  pub lower : r .lower .0 < n
 
 -- a list of n tasks or m rules that has no room
 abbrev pub tasksFull : ℕ → ℕ × Bool

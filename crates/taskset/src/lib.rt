@@ -1,9 +1,12 @@
 // Task sets: document 01's sheet, with adding a task and a rule, and refusal 14.
 
 ghost use mathlib.Core.Path.{_≡_};
+ghost use mathlib.Core.Bool.{true};
+ghost use mathlib.Core.Logic.{_↔_};
 ghost use Rattle.sets.specs.Bounded.{all};
 ghost use Rattle.taskset.specs.Rows.{maxTasks, maxRules, firstOf, outside, rowRefusals, indexRefusals, taskRefusal, ruleRefusal};
-ghost use Rattle.taskset.specs.Adding.{freshSet, isBlankTask, isBlankRule, taskFits, ruleFits, taskEntry, ruleEntry, isMade, addTask, addRule};
+ghost use Rattle.taskset.specs.Adding.{blankTask, blankRule, freshSet, isBlankTask, isBlankRule, taskFits, ruleFits, entry, isMade, addTask, addRule};
+ghost use Rattle.taskset.specs.Calls.{Made};
 
 pub const MAX_TASKS: usize = 64;
 pub const MAX_RULES: usize = 128;
@@ -151,7 +154,7 @@ fn rule_fits(n: usize, used: bool, r: Rule) -> bool
 
 // Every entry of a task list of which the first n are used.
 fn task_entries(tasks: [Task; MAX_TASKS], n: usize) -> bool
-    ensures { λ r. ⌜ r ≡ all maxTasks (taskEntry n tasks) ⌝ }
+    ensures { λ r. ⌜ r ≡ all maxTasks (entry taskFits blankTask n tasks) ⌝ }
 {
     let mut i = 0;
     while i < MAX_TASKS {
@@ -165,7 +168,7 @@ fn task_entries(tasks: [Task; MAX_TASKS], n: usize) -> bool
 
 // Every entry of a rule list of which the first m are used, over n tasks.
 fn rule_entries(rules: [Rule; MAX_RULES], n: usize, m: usize) -> bool
-    ensures { λ r. ⌜ r ≡ all maxRules (ruleEntry n m rules) ⌝ }
+    ensures { λ r. ⌜ r ≡ all maxRules (entry (ruleFits n) blankRule m rules) ⌝ }
 {
     let mut i = 0;
     while i < MAX_RULES {
@@ -204,21 +207,13 @@ impl TaskSet {
     // Some list of adding calls makes this set; if not, every call refuses it with 14.
     pub fn is_made(self) -> bool
         ensures { λ r. ⌜ r ≡ isMade self ⌝ }
+        ensures exact { λ r. ⌜ (r ≡ true) ↔ Made self ⌝ }
     {
         let n = self.ntasks;
         let m = self.nrules;
-        if MAX_TASKS < n {
-            return false;
-        }
-        if MAX_RULES < m {
-            return false;
-        }
         let tasks = self.tasks;
-        if !task_entries(tasks, n) {
-            return false;
-        }
         let rules = self.rules;
-        rule_entries(rules, n, m)
+        (n <= MAX_TASKS) & (m <= MAX_RULES) & task_entries(tasks, n) & rule_entries(rules, n, m)
     }
 
     // Refusals 14, 1 to 5, 10.

@@ -8,12 +8,12 @@ use borrow.Author.Tests.{not-true, not-false}
 use lib.Dec.{T}
 use Rattle.sets.specs.Bounded.{all, all-none, all-more, all-whole, all-not}
 use Rattle.taskset.specs.Rows.{maxRules}
-use Rattle.taskset.specs.Adding.{ruleEntry}
+use Rattle.taskset.specs.Adding.{blankRule, ruleFits, entry}
 use Rattle.taskset.proofs.rule_entries.Statement.{statement}
 use Rattle.taskset.proofs.rule_entries.Tie as tie
 
 abbrev Inv-loop : tie.InvT-loop
-Inv-loop n m rules i₀ i = (i ≤ maxRules) × T (all i (ruleEntry n m rules))
+Inv-loop n m rules i₀ i = (i ≤ maxRules) × T (all i (entry (ruleFits n) blankRule m rules))
 
 abbrev μ-loop : tie.MeasureT-loop
 μ-loop n m rules i₀ i = maxRules - i

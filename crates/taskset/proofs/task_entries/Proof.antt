@@ -8,12 +8,12 @@ use borrow.Author.Tests.{not-true, not-false}
 use lib.Dec.{T}
 use Rattle.sets.specs.Bounded.{all, all-none, all-more, all-whole, all-not}
 use Rattle.taskset.specs.Rows.{maxTasks}
-use Rattle.taskset.specs.Adding.{taskEntry}
+use Rattle.taskset.specs.Adding.{blankTask, taskFits, entry}
 use Rattle.taskset.proofs.task_entries.Statement.{statement}
 use Rattle.taskset.proofs.task_entries.Tie as tie
 
 abbrev Inv-loop : tie.InvT-loop
-Inv-loop n tasks i₀ i = (i ≤ maxTasks) × T (all i (taskEntry n tasks))
+Inv-loop n tasks i₀ i = (i ≤ maxTasks) × T (all i (entry taskFits blankTask n tasks))
 
 abbrev μ-loop : tie.MeasureT-loop
 μ-loop n tasks i₀ i = maxTasks - i

@@ -17,14 +17,14 @@ is-made-requires : tie.Need-is-made-requires
 is-made-requires c κs = search needs
 
 returns : tie.Need-returns
-returns c = adding-14 _ _ _ (sym (c .before .is-made .ensures) ∙ not-true _ (c .if1 .taken))
+returns c = adding-14 _ _ _ (sym (c .before .is-made .ensures .0) ∙ not-true _ (c .if1 .taken))
 
 rule-refusal-requires : tie.Need-rule-refusal-requires
 rule-refusal-requires c κs = search needs
 
 returns-2 : tie.Need-returns-2
 returns-2 c =
-    adding-refused _ _ _ (sym (c .before .before .before .is-made .ensures) ∙ not-false _ (c .before .before .if1 .left)) _
+    adding-refused _ _ _ (sym (c .before .before .before .is-made .ensures .0) ∙ not-false _ (c .before .before .if1 .left)) _
     (c .before .rule-refusal .ensures) (c .if2 .taken)
 
 mul-rule : tie.Need-mul-rule
@@ -38,7 +38,7 @@ add-set c = let h = room c in omega arith
 
 returns-3 : tie.Need-returns-3
 returns-3 c =
-    adding-taken _ _ _ (sym (c .before .before .before .is-made .ensures) ∙ not-false _ (c .before .before .if1 .left))
+    adding-taken _ _ _ (sym (c .before .before .before .is-made .ensures .0) ∙ not-false _ (c .before .before .if1 .left))
     (sym (c .before .rule-refusal .ensures) ∙ c .if2 .left)
 
 pub add-rule-spec : {M : Type 1} → statement M

@@ -1,0 +1,58 @@
+-- Lists of adding calls: the task set that the calls make, and the reference model, which is document 01's sceptic.
+-- Assumes nothing.
+use mathlib.Core.Path.{_≡_}
+use mathlib.Core.Bool.{Bool}
+use mathlib.Core.List.{List, [], _∷_, _++_}
+use Prim.Native.Nat.{ℕ}
+use lib.Dec.{eqb}
+use lib.ListN.{length}
+use Rattle.sets.specs.Choice.{pick}
+use Rattle.taskset.specs.declared.Task.{Task}
+use Rattle.taskset.specs.declared.Rule.{Rule}
+use Rattle.taskset.specs.declared.TaskSet.{TaskSet}
+use Rattle.taskset.specs.Rows.{taskRefusal, ruleRefusal}
+use Rattle.taskset.specs.Adding.{freshSet, addTask, addRule}
+
+-- the arguments of an adding call, its task set aside
+pub data Call : Type 0 where
+  task : Task → Call
+  rule : Rule → Call
+
+-- ---- the program
+
+-- the set that a call hands back
+abbrev pub after : TaskSet → Call → TaskSet
+after s (task t) = addTask s t .set
+after s (rule r) = addRule s r .set
+
+-- each call is handed the set that the one before handed back, after a refusal too
+unfoldable pub run : TaskSet → List Call → TaskSet
+run s [] = s
+run s (c ∷ cs) = run (after s c) cs
+
+-- some list of adding calls from a fresh set makes this very set
+unfoldable pub Made : TaskSet → Type 0
+Made s = (calls : List Call) × (run freshSet calls ≡ s)
+
+-- ---- the reference model
+
+-- his list of tasks and his list of rules
+pub record Lists : Type 0 where
+  pub tasks : List Task
+  pub rules : List Rule
+
+abbrev pub noLists : Lists
+noLists = record { tasks = []; rules = [] }
+
+-- the entry goes to the end where the call's refusal is 0
+abbrev pub append : {A : Type 0} → ℕ → List A → A → List A
+append refusal xs x = pick (eqb refusal 0) (xs ++ x ∷ []) xs
+
+abbrev pub hear : Lists → Call → Lists
+hear l (task t) = record { tasks = append (taskRefusal (length (l .tasks)) t) (l .tasks) t; rules = l .rules }
+hear l (rule r) =
+    record { tasks = l .tasks; rules = append (ruleRefusal (length (l .tasks)) (length (l .rules)) r) (l .rules) r }
+
+unfoldable pub heard : Lists → List Call → Lists
+heard l [] = l
+heard l (c ∷ cs) = heard (hear l c) cs

@@ -1,0 +1,346 @@
+-- Refusal 14 is exact: the check passes just the sets that calls make. On the way: the set that calls make holds the
+-- reference model's lists, entry for entry. Assumes nothing.
+use mathlib.Core.Path.{_≡_, refl, sym, ap, ap₂, _∙_, subst}
+use mathlib.Core.Bool.{Bool, true, false, _&&_}
+use mathlib.Core.List.{List, [], _∷_, _++_, map, append-nil}
+use mathlib.Core.Logic.{_↔_}
+use Prim.Native.Nat.{ℕ, zero, suc, _+_, _-_, _≤_, _<_, suc-le-suc}
+use native.Mathlib.Nat.{zero-lt-suc}
+use native.Mathlib.Numerals.{add-one}
+use native.Mathlib.Omega.{arith}
+use lib.Dec.{T, leb, ltb, eqb, eqb→eq, leb→le, eqb·suc-zero}
+use lib.ListN.{length, getD, set, take, drop, replicate, length-append, length-replicate, getD-replicate, List·getD-append}
+use lib.Seq.{length-take-le, set-append-seam, getD-append-seam, getD-append-add, getD-take, append-snoc, ext-getD}
+use borrow.Author.Tests.{lt-ltb, le-ltb, le-leb, eqb-true, ltb-true, ltb-false, leb-true}
+use Rattle.sets.specs.Choice.{pick, T→true, true→T, and-intro, and-left, and-right}
+use Rattle.sets.specs.Bounded.{all, all-of, all-at, below-suc}
+use Rattle.taskset.specs.declared.Task.{Task}
+use Rattle.taskset.specs.declared.Rule.{Rule}
+use Rattle.taskset.specs.declared.TaskSet.{TaskSet}
+use Rattle.taskset.specs.Rows.{maxTasks, maxRules, InRanges, Between, firstOf, rowRefusals, indexRefusals, taskRefusal, ruleRefusal}
+use Rattle.taskset.specs.Adding.{blankTask, blankRule, freshSet, taskFits, ruleFits, entry, isMade, withTask, withRule, adding, addTask, addRule}
+use Rattle.taskset.specs.Calls.{Call, task, rule, after, run, Made, Lists, noLists, append, hear, heard}
+use Rattle.taskset.specs.Laws.{row-accepted, row-accepts, rule-accepted, rule-accepts, task-taken, task-taken-only, rule-taken, rule-taken-only}
+
+-- ---- a list in an array of n entries, the rest d
+
+module _ {A : Type 0} where
+  abbrev pub pad : ℕ → A → List A → List A
+  pad n d xs = xs ++ replicate (n - length xs) d
+
+  replicate-less : (n k : ℕ) (d : A) → k < n → replicate (n - k) d ≡ d ∷ replicate (n - suc k) d
+  replicate-less n k d h =
+      let e : n - k ≡ suc (n - suc k) = omega arith in
+      ap (λ (m : ℕ). replicate m d) e
+
+  -- one entry more
+  pub set-pad : (n : ℕ) (d : A) (xs : List A) (x : A) → length xs < n → set (pad n d xs) (length xs) x ≡ pad n d (xs ++ x ∷ [])
+  set-pad n d xs x h =
+      let e : length (xs ++ x ∷ []) ≡ suc (length xs) = length-append xs (x ∷ []) ∙ add-one (length xs) in
+      rw (e, replicate-less n (length xs) d h, set-append-seam xs d (replicate (n - suc (length xs)) d) x) (sym (append-snoc xs x (replicate (n - suc (length xs)) d)))
+
+  pub pad-used : (n : ℕ) (d : A) (xs : List A) (k : ℕ) → k < length xs → getD (pad n d xs) k d ≡ getD xs k d
+  pad-used n d xs k h = List·getD-append xs (replicate (n - length xs) d) d k h
+
+  pub pad-unused : (n : ℕ) (d : A) (xs : List A) (k : ℕ) → length xs ≤ k → k < n → getD (pad n d xs) k d ≡ d
+  pad-unused n d xs k over under =
+      let e : k ≡ length xs + (k - length xs) = omega arith in
+      ap (λ (m : ℕ). getD (pad n d xs) m d) e
+      ∙ getD-append-add xs (replicate (n - length xs) d) (k - length xs) d
+      ∙ getD-replicate (n - length xs) (k - length xs) d d (omega arith)
+
+-- the set that holds these lists
+abbrev pub holding : Lists → TaskSet
+holding l =
+    record {
+      tasks = pad maxTasks blankTask (l .tasks);
+      ntasks = length (l .tasks);
+      rules = pad maxRules blankRule (l .rules);
+      nrules = length (l .rules)
+    }
+
+-- ---- lists that adding has taken
+
+pub record Sound (l : Lists) : Type 0 where
+  pub few-tasks : length (l .tasks) ≤ maxTasks
+  pub few-rules : length (l .rules) ≤ maxRules
+  pub rows : (i : ℕ) → i < length (l .tasks) → InRanges (getD (l .tasks) i blankTask)
+  pub indices : (i : ℕ) → i < length (l .rules) → Between (length (l .tasks)) (getD (l .rules) i blankRule)
+
+pub none-sound : Sound noLists
+none-sound =
+    record {
+      few-tasks = omega arith;
+      few-rules = omega arith;
+      rows = λ i h. absurd (omega arith);
+      indices = λ i h. absurd (omega arith)
+    }
+
+-- ---- the check passes a set that holds such lists
+
+-- every entry of a padded list fits
+entries : {A : Type 0} (fits : Bool → A → Bool) (n : ℕ) (d : A) (xs : List A) → T (fits false d) → ((i : ℕ) → i < length xs → T (fits true (getD xs i d))) → all n (entry fits d (length xs) (pad n d xs)) ≡ true
+entries fits n d xs unused used =
+    T→true (all n (entry fits d (length xs) (pad n d xs)))
+    (all-of n (entry fits d (length xs) (pad n d xs)) (λ k h. go k h (ltb k (length xs)) refl))
+  where
+    go : (k : ℕ) → k < n → (b : Bool) → ltb k (length xs) ≡ b → T (fits b (getD (pad n d xs) k d))
+    go k h true e = let under = ltb-true k (length xs) e in rw (pad-used n d xs k under) (used k under)
+    go k h false e = rw (pad-unused n d xs k (ltb-false k (length xs) e) h) unused
+
+pub sound-made : (l : Lists) → Sound l → isMade (holding l) ≡ true
+unfolding isMade taskFits ruleFits
+sound-made l s =
+    let n = length (l .tasks) in
+    rw (
+      le-leb n maxTasks (s .few-tasks),
+      le-leb (length (l .rules)) maxRules (s .few-rules),
+      entries taskFits maxTasks blankTask (l .tasks) tt (λ i h. rw (row-accepts (getD (l .tasks) i blankTask) (s .rows i h)) tt),
+      entries (ruleFits n) maxRules blankRule (l .rules) tt (λ i h. rw (rule-accepts n (getD (l .rules) i blankRule) (s .indices i h)) tt)
+    )
+
+-- ---- a call on a set that holds such lists makes one that holds what the reference model hears
+
+adding-set : (s : TaskSet) (k : ℕ) (new : TaskSet) → isMade s ≡ true → adding s k new .set ≡ pick (eqb k 0) new s
+unfolding adding
+adding-set s k new e = rw e
+
+holding-task : (l : Lists) (t : Task) → length (l .tasks) < maxTasks → withTask (holding l) t ≡ holding (record { tasks = l .tasks ++ t ∷ []; rules = l .rules })
+holding-task l t h =
+    ap₂ (λ (ts : List Task) (n : ℕ). record { tasks = ts; ntasks = n; rules = holding l .rules; nrules = holding l .nrules })
+    (set-pad maxTasks blankTask (l .tasks) t h) (sym (length-append (l .tasks) (t ∷ [])))
+
+holding-rule : (l : Lists) (r : Rule) → length (l .rules) < maxRules → withRule (holding l) r ≡ holding (record { tasks = l .tasks; rules = l .rules ++ r ∷ [] })
+holding-rule l r h =
+    ap₂ (λ (rs : List Rule) (n : ℕ). record { tasks = holding l .tasks; ntasks = holding l .ntasks; rules = rs; nrules = n })
+    (set-pad maxRules blankRule (l .rules) r h) (sym (length-append (l .rules) (r ∷ [])))
+
+after-holding : (l : Lists) → Sound l → (c : Call) → after (holding l) c ≡ holding (hear l c)
+after-holding l s (task t) = adding-set (holding l) (taskRefusal (length (l .tasks)) t) (withTask (holding l) t) (sound-made l s) ∙ go (taskRefusal (length (l .tasks)) t) refl
+  where
+    go : (k : ℕ) → taskRefusal (length (l .tasks)) t ≡ k → pick (eqb k 0) (withTask (holding l) t) (holding l) ≡ holding (record { tasks = append k (l .tasks) t; rules = l .rules })
+    go zero e = holding-task l t (task-taken-only (length (l .tasks)) t e .1)
+    go (suc k) e = rw (eqb·suc-zero k)
+after-holding l s (rule r) = adding-set (holding l) (ruleRefusal (length (l .tasks)) (length (l .rules)) r) (withRule (holding l) r) (sound-made l s) ∙ go (ruleRefusal (length (l .tasks)) (length (l .rules)) r) refl
+  where
+    go : (k : ℕ) → ruleRefusal (length (l .tasks)) (length (l .rules)) r ≡ k → pick (eqb k 0) (withRule (holding l) r) (holding l) ≡ holding (record { tasks = l .tasks; rules = append k (l .rules) r })
+    go zero e = holding-rule l r (rule-taken-only (length (l .tasks)) (length (l .rules)) r e .1)
+    go (suc k) e = rw (eqb·suc-zero k)
+
+-- what holds of each entry and of one more holds of each of the longer list
+each-more : {A : Type 0} (P : A → Type 0) (d : A) (xs : List A) (x : A) → ((i : ℕ) → i < length xs → P (getD xs i d)) → P x → (i : ℕ) → i < length (xs ++ x ∷ []) → P (getD (xs ++ x ∷ []) i d)
+each-more P d xs x each one i h =
+    below-suc (λ (k : ℕ). P (getD (xs ++ x ∷ []) k d)) (length xs)
+    (λ k l. rw (List·getD-append xs (x ∷ []) d k l) (each k l))
+    (rw (getD-append-seam xs x [] d) one)
+    i (subst (λ (m : ℕ). i < m) (length-append xs (x ∷ []) ∙ add-one (length xs)) h)
+
+hear-sound : (l : Lists) → Sound l → (c : Call) → Sound (hear l c)
+hear-sound l s (task t) = go (taskRefusal (length (l .tasks)) t) refl
+  where
+    go : (k : ℕ) → taskRefusal (length (l .tasks)) t ≡ k → Sound (record { tasks = append k (l .tasks) t; rules = l .rules })
+    go zero e =
+        let ok = task-taken-only (length (l .tasks)) t e in
+        let longer = length-append (l .tasks) (t ∷ []) in
+        record {
+          few-tasks = omega (arith, ok .1);
+          few-rules = s .few-rules;
+          rows = each-more InRanges blankTask (l .tasks) t (s .rows) (row-accepted t (ok .0));
+          indices = λ i h. let b = s .indices i h in record { apart = b .apart; higher = omega arith; lower = omega arith }
+        }
+    go (suc k) e = rw (eqb·suc-zero k) s
+hear-sound l s (rule r) = go (ruleRefusal (length (l .tasks)) (length (l .rules)) r) refl
+  where
+    go : (k : ℕ) → ruleRefusal (length (l .tasks)) (length (l .rules)) r ≡ k → Sound (record { tasks = l .tasks; rules = append k (l .rules) r })
+    go zero e =
+        let ok = rule-taken-only (length (l .tasks)) (length (l .rules)) r e in
+        let longer = length-append (l .rules) (r ∷ []) in
+        record {
+          few-tasks = s .few-tasks;
+          few-rules = omega (arith, ok .1);
+          rows = s .rows;
+          indices = each-more (Between (length (l .tasks))) blankRule (l .rules) r (s .indices) (rule-accepted (length (l .tasks)) r (ok .0))
+        }
+    go (suc k) e = rw (eqb·suc-zero k) s
+
+-- the calls make the set that holds what the reference model hears
+pub run-holding : (l : Lists) → Sound l → (calls : List Call) → run (holding l) calls ≡ holding (heard l calls)
+unfolding run heard
+run-holding l s [] = refl
+run-holding l s (c ∷ cs) = rw (after-holding l s c) (run-holding (hear l c) (hear-sound l s c) cs)
+
+pub heard-sound : (l : Lists) → Sound l → (calls : List Call) → Sound (heard l calls)
+unfolding heard
+heard-sound l s [] = s
+heard-sound l s (c ∷ cs) = heard-sound (hear l c) (hear-sound l s c) cs
+
+-- ---- refusal 14 is exact
+
+-- what calls make passes
+pub made-passes : (s : TaskSet) → Made s → isMade s ≡ true
+unfolding Made
+made-passes s m =
+    ap isMade (sym (m .1) ∙ run-holding noLists none-sound (m .0))
+    ∙ sound-made (heard noLists (m .0)) (heard-sound noLists none-sound (m .0))
+
+-- the lists in a set's used entries
+abbrev pub lists : TaskSet → Lists
+lists s = record { tasks = take (s .ntasks) (s .tasks); rules = take (s .nrules) (s .rules) }
+
+-- a value of the code's type has arrays of these sizes
+abbrev pub Sized : TaskSet → Type 0
+Sized s = (length (s .tasks) ≡ maxTasks) × (length (s .rules) ≡ maxRules)
+
+blank-task : (t : Task) → T (taskFits false t) → t ≡ blankTask
+unfolding taskFits
+blank-task t h =
+    let isC = eqb (t .period) 0 && eqb (t .execution) 0 in
+    let isD = isC && eqb (t .deadline) 0 in
+    let isJ = isD && eqb (t .jitter) 0 in
+    let uptoJ = and-left isJ (eqb (t .blocking) 0) h in
+    let uptoD = and-left isD (eqb (t .jitter) 0) uptoJ in
+    let uptoC = and-left isC (eqb (t .deadline) 0) uptoD in
+    let period = eqb→eq (t .period) 0 (and-left (eqb (t .period) 0) (eqb (t .execution) 0) uptoC) in
+    let execution = eqb→eq (t .execution) 0 (and-right (eqb (t .period) 0) (eqb (t .execution) 0) uptoC) in
+    let deadline = eqb→eq (t .deadline) 0 (and-right isC (eqb (t .deadline) 0) uptoD) in
+    let jitter = eqb→eq (t .jitter) 0 (and-right isD (eqb (t .jitter) 0) uptoJ) in
+    let blocking = eqb→eq (t .blocking) 0 (and-right isJ (eqb (t .blocking) 0) h) in
+    λ i. record { period = period i; execution = execution i; deadline = deadline i; jitter = jitter i; blocking = blocking i }
+
+blank-rule : (n : ℕ) (r : Rule) → T (ruleFits n false r) → r ≡ blankRule
+unfolding ruleFits
+blank-rule n r h =
+    let higher = eqb→eq (r .higher .0) 0 (and-left (eqb (r .higher .0) 0) (eqb (r .lower .0) 0) h) in
+    let lower = eqb→eq (r .lower .0) 0 (and-right (eqb (r .higher .0) 0) (eqb (r .lower .0) 0) h) in
+    λ i. record { higher = record { 0 = higher i }; lower = record { 0 = lower i } }
+
+accepted-task : (t : Task) → T (taskFits true t) → InRanges t
+unfolding taskFits
+accepted-task t h = row-accepted t (eqb→eq (firstOf (rowRefusals t)) 0 h)
+
+accepted-rule : (n : ℕ) (r : Rule) → T (ruleFits n true r) → Between n r
+unfolding ruleFits
+accepted-rule n r h = rule-accepted n r (eqb→eq (firstOf (indexRefusals n r)) 0 h)
+
+-- an array whose unused entries are d is its first n entries, padded
+module _ {A : Type 0} (fits : Bool → A → Bool) (limit n : ℕ) (d : A) (xs : List A) (size : length xs ≡ limit) (few : n ≤ limit) (fit : (i : ℕ) → i < limit → T (entry fits d n xs i)) where
+  length-used : length (take n xs) ≡ n
+  length-used = length-take-le n xs (omega arith)
+
+  entry-used : (i : ℕ) → i < length (take n xs) → T (fits true (getD (take n xs) i d))
+  entry-used i h =
+      let under : i < n = omega (arith, length-used) in
+      rw (getD-take n xs i d under) (rw (lt-ltb i n under) at (fit i (omega arith)))
+
+  pad-used-entries : ((x : A) → T (fits false x) → x ≡ d) → pad limit d (take n xs) ≡ xs
+  pad-used-entries blank = ext-getD d (pad limit d (take n xs)) xs padded at
+    where
+      padded : length (pad limit d (take n xs)) ≡ length xs
+      padded =
+          length-append (take n xs) (replicate (limit - length (take n xs)) d)
+          ∙ omega (arith, length-used, length-replicate (limit - length (take n xs)) d)
+      go : (i : ℕ) → i < limit → (b : Bool) → ltb i n ≡ b → T (fits b (getD xs i d)) → getD (pad limit d (take n xs)) i d ≡ getD xs i d
+      go i h true e t =
+          let under = ltb-true i n e in
+          pad-used limit d (take n xs) i (omega (arith, length-used)) ∙ getD-take n xs i d under
+      go i h false e t =
+          let over = ltb-false i n e in
+          pad-unused limit d (take n xs) i (omega (arith, length-used)) h ∙ sym (blank (getD xs i d) t)
+      at : (i : ℕ) → i < length (pad limit d (take n xs)) → getD (pad limit d (take n xs)) i d ≡ getD xs i d
+      at i h = let l : i < limit = omega (arith, padded) in go i l (ltb i n) refl (fit i l)
+
+-- what the check looked at
+record Passed (s : TaskSet) : Type 0 where
+  few-tasks : s .ntasks ≤ maxTasks
+  few-rules : s .nrules ≤ maxRules
+  tasks : (i : ℕ) → i < maxTasks → T (entry taskFits blankTask (s .ntasks) (s .tasks) i)
+  rules : (i : ℕ) → i < maxRules → T (entry (ruleFits (s .ntasks)) blankRule (s .nrules) (s .rules) i)
+
+passed : (s : TaskSet) → isMade s ≡ true → Passed s
+unfolding isMade
+passed s e =
+    let a = leb (s .ntasks) maxTasks in
+    let b = leb (s .nrules) maxRules in
+    let c = all maxTasks (entry taskFits blankTask (s .ntasks) (s .tasks)) in
+    let d = all maxRules (entry (ruleFits (s .ntasks)) blankRule (s .nrules) (s .rules)) in
+    let abcd = true→T (a && b && c && d) e in
+    let abc = and-left (a && b && c) d abcd in
+    let ab = and-left (a && b) c abc in
+    record {
+      few-tasks = leb→le (s .ntasks) maxTasks (and-left a b ab);
+      few-rules = leb→le (s .nrules) maxRules (and-right a b ab);
+      tasks = all-at maxTasks (entry taskFits blankTask (s .ntasks) (s .tasks)) (and-right (a && b) c abc);
+      rules = all-at maxRules (entry (ruleFits (s .ntasks)) blankRule (s .nrules) (s .rules)) (and-right (a && b && c) d abcd)
+    }
+
+-- what passes holds its lists, and adding has taken them
+module _ (s : TaskSet) (size : Sized s) (e : isMade s ≡ true) where
+  tasks-used : length (take (s .ntasks) (s .tasks)) ≡ s .ntasks
+  tasks-used = length-used taskFits maxTasks (s .ntasks) blankTask (s .tasks) (size .0) (passed s e .few-tasks) (passed s e .tasks)
+
+  rules-used : length (take (s .nrules) (s .rules)) ≡ s .nrules
+  rules-used = length-used (ruleFits (s .ntasks)) maxRules (s .nrules) blankRule (s .rules) (size .1) (passed s e .few-rules) (passed s e .rules)
+
+  pub passes-holding : holding (lists s) ≡ s
+  passes-holding =
+      let tasks = pad-used-entries taskFits maxTasks (s .ntasks) blankTask (s .tasks) (size .0) (passed s e .few-tasks) (passed s e .tasks) blank-task in
+      let rules = pad-used-entries (ruleFits (s .ntasks)) maxRules (s .nrules) blankRule (s .rules) (size .1) (passed s e .few-rules) (passed s e .rules) (blank-rule (s .ntasks)) in
+      λ i. record { tasks = tasks i; ntasks = tasks-used i; rules = rules i; nrules = rules-used i }
+
+  pub passes-sound : Sound (lists s)
+  passes-sound =
+      let p = passed s e in
+      record {
+        few-tasks = omega (arith, tasks-used, p .few-tasks);
+        few-rules = omega (arith, rules-used, p .few-rules);
+        rows = λ i h. accepted-task (getD (lists s .tasks) i blankTask) (entry-used taskFits maxTasks (s .ntasks) blankTask (s .tasks) (size .0) (p .few-tasks) (p .tasks) i h);
+        indices = λ i h. rw tasks-used (accepted-rule (s .ntasks) (getD (lists s .rules) i blankRule) (entry-used (ruleFits (s .ntasks)) maxRules (s .nrules) blankRule (s .rules) (size .1) (p .few-rules) (p .rules) i h))
+      }
+
+-- lists that adding takes are heard whole
+hear-tasks : (ts : List Task) (l : Lists) (cs : List Call) → length (l .tasks) + length ts ≤ maxTasks → ((i : ℕ) → i < length ts → InRanges (getD ts i blankTask)) → heard l (map task ts ++ cs) ≡ heard (record { tasks = l .tasks ++ ts; rules = l .rules }) cs
+unfolding heard
+hear-tasks [] l cs h each = rw (append-nil (l .tasks))
+hear-tasks (t ∷ ts) l cs h each =
+    let takes = task-taken (length (l .tasks)) t (row-accepts t (each 0 (zero-lt-suc (length ts)))) (omega arith) in
+    ap (λ (k : ℕ). heard (record { tasks = append k (l .tasks) t; rules = l .rules }) (map task ts ++ cs)) (sym takes)
+    ∙ hear-tasks ts (record { tasks = l .tasks ++ t ∷ []; rules = l .rules }) cs (omega (arith, length-append (l .tasks) (t ∷ []))) (λ i k. each (suc i) (suc-le-suc k))
+    ∙ rw (append-snoc (l .tasks) t ts)
+
+hear-rules : (rs : List Rule) (l : Lists) → length (l .rules) + length rs ≤ maxRules → ((i : ℕ) → i < length rs → Between (length (l .tasks)) (getD rs i blankRule)) → heard l (map rule rs) ≡ record { tasks = l .tasks; rules = l .rules ++ rs }
+unfolding heard
+hear-rules [] l h each = rw (append-nil (l .rules))
+hear-rules (r ∷ rs) l h each =
+    let takes = rule-taken (length (l .tasks)) (length (l .rules)) r (rule-accepts (length (l .tasks)) r (each 0 (zero-lt-suc (length rs)))) (omega arith) in
+    ap (λ (k : ℕ). heard (record { tasks = l .tasks; rules = append k (l .rules) r }) (map rule rs)) (sym takes)
+    ∙ hear-rules rs (record { tasks = l .tasks; rules = l .rules ++ r ∷ [] }) (omega (arith, length-append (l .rules) (r ∷ []))) (λ i k. each (suc i) (suc-le-suc k))
+    ∙ rw (append-snoc (l .rules) r rs)
+
+abbrev pub callsOf : Lists → List Call
+callsOf l = map task (l .tasks) ++ map rule (l .rules)
+
+pub heard-all : (l : Lists) → Sound l → heard noLists (callsOf l) ≡ l
+heard-all l s =
+    hear-tasks (l .tasks) noLists (map rule (l .rules)) (omega (arith, s .few-tasks)) (s .rows)
+    ∙ hear-rules (l .rules) (record { tasks = l .tasks; rules = [] }) (omega (arith, s .few-rules)) (s .indices)
+
+-- what passes is made by calls
+pub passes-made : (s : TaskSet) → Sized s → isMade s ≡ true → Made s
+unfolding Made
+passes-made s size e =
+    (callsOf (lists s),
+    run-holding noLists none-sound (callsOf (lists s)) ∙ ap holding (heard-all (lists s) (passes-sound s size e)) ∙ passes-holding s size e)
+
+-- so an answer that is the check's says whether calls make the set
+pub passes-exact : (s : TaskSet) → Sized s → (r : Bool) → r ≡ isMade s → (r ≡ true) ↔ Made s
+passes-exact s size r e = (λ t. passes-made s size (sym e ∙ t), λ m. e ∙ made-passes s m)
+
+-- a further call on what calls make makes a set that calls make
+run-more : (s : TaskSet) (calls : List Call) (c : Call) → run s (calls ++ c ∷ []) ≡ after (run s calls) c
+unfolding run
+run-more s [] c = refl
+run-more s (x ∷ xs) c = run-more (after s x) xs c
+
+pub after-made : (s : TaskSet) → Made s → (c : Call) → Made (after s c)
+unfolding Made
+after-made s m c = (m .0 ++ c ∷ [], run-more freshSet (m .0) c ∙ ap (λ (x : TaskSet). after x c) (m .1))

@@ -273,9 +273,15 @@ passed s e =
       rules = all-at maxRules (entry (ruleFits (s .ntasks)) blankRule (s .nrules) (s .rules)) (and-right (a && b && c) d abcd)
     }
 
+-- so a used row is within its ranges
+pub passes-row : (s : TaskSet) → isMade s ≡ true → (i : ℕ) → i < s .ntasks → InRanges (getD (s .tasks) i blankTask)
+passes-row s e i h =
+    let few = passed s e .few-tasks in
+    accepted-task (getD (s .tasks) i blankTask) (rw (lt-ltb i (s .ntasks) h) at (passed s e .tasks i (omega arith)))
+
 -- what passes holds its lists, and adding has taken them
 module _ (s : TaskSet) (size : Sized s) (e : isMade s ≡ true) where
-  tasks-used : length (take (s .ntasks) (s .tasks)) ≡ s .ntasks
+  pub tasks-used : length (take (s .ntasks) (s .tasks)) ≡ s .ntasks
   tasks-used = length-used taskFits maxTasks (s .ntasks) blankTask (s .tasks) (size .0) (passed s e .few-tasks) (passed s e .tasks)
 
   rules-used : length (take (s .nrules) (s .rules)) ≡ s .nrules

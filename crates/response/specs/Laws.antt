@@ -5,16 +5,20 @@ use mathlib.Core.Bool.{Bool, true, false}
 use mathlib.Core.List.{List}
 use mathlib.Core.Logic.{⊎-elim}
 use Prim.Native.Nat.{ℕ, zero, suc, _+_, _-_, _*_, _/_, _≤_, _<_}
-use native.Mathlib.Nat.{le-refl, le-trans, le-antisymm, add-le-add, eq-zero-or-pos, eq-or-lt-of-le, div-mul-le-self, le-div-iff-mul-le, lt-div-mul-add, div-lt-iff-lt-mul, mul-le-mul-left, mul-le-mul-right, mul-assoc, mul-comm, mul-add, mul-sub, suc-mul, div-zero, le-of-eq, le-of-suc-le-suc}
+use native.Mathlib.Nat.{le-refl, le-trans, le-antisymm, lt-of-lt-of-le, add-le-add, eq-zero-or-pos, eq-or-lt-of-le, div-mul-le-self, le-div-iff-mul-le, lt-div-mul-add, div-lt-iff-lt-mul, mul-le-mul, mul-le-mul-left, mul-le-mul-right, one-mul, mul-assoc, mul-comm, mul-add, mul-sub, suc-mul, div-le-of-le-mul, div-zero, le-of-eq, le-of-suc-le-suc}
 use native.Mathlib.Omega.{arith}
 use borrow.Author.Tests.{leb-true, leb-false}
 use lib.Dec.{leb}
-use lib.ListN.{length}
+use lib.ListN.{length, take}
+use lib.Seq.{length-take-le, getD-take}
 use Rattle.sets.specs.Choice.{pick}
 use Rattle.sets.specs.Bounded.{Subset}
-use Rattle.sets.specs.Sum.{sum, sum-mono, sum-scaled}
+use Rattle.sets.specs.Sum.{sum, sum-none, sum-more, sum-mono, sum-cong, sum-le, sum-scaled}
 use Rattle.taskset.specs.declared.Task.{Task}
-use Rattle.taskset.specs.Rows.{maxPeriod, InRanges}
+use Rattle.taskset.specs.Rows.{maxTasks, maxPeriod, InRanges}
+use Rattle.taskset.specs.declared.TaskSet.{TaskSet}
+use Rattle.taskset.specs.Adding.{blankTask, isMade}
+use Rattle.taskset.specs.Exact.{rows, rows-row, passes-row}
 use Rattle.response.specs.declared.Window.{Window}
 use Rattle.response.specs.declared.Window.the-variants.{At, Beyond}
 use Rattle.response.specs.declared.Response.{Response}
@@ -58,6 +62,9 @@ module _ (d : ℕ → ℕ) where
   -- so an answer that says so is the function's
   pub window-is : (room : ℕ) (a : Window) → SaysWindow d room a → a ≡ windowOf d room
   window-is room a s = window-unique room a (windowOf d room) s (window-says room)
+
+  pub window-room : (room w : ℕ) → At w ≡ windowOf d room → w ≤ room
+  window-room room w e = subst (SaysWindow d room) (sym e) (window-says room) .1
 
   respond-says : (jitter limit : ℕ) (a : Window) → SaysWindow d (limit - jitter) a → Says d jitter limit (respond jitter a)
   respond-says jitter limit (At w) s = (w, s .0, refl, omega (arith, s .0 .low, s .1))
@@ -147,6 +154,39 @@ module _ (tasks : List Task) (i : ℕ) where
   pub fewer-above : (fewer above : ℕ → Bool) → Subset (length tasks) fewer above → (jitter limit r : ℕ) → responseOf (demand tasks i above) jitter limit ≡ Within r → (q : ℕ) × (responseOf (demand tasks i fewer) jitter limit ≡ Within q) × (q ≤ r)
   fewer-above fewer above sub = less-demand (demand tasks i fewer) (demand tasks i above) (demand-fewer fewer above sub)
 
+-- ---- the first n tasks of an array
+
+-- a sum over them is a sum over the array's entries
+pub sum-first : (n : ℕ) (tasks : List Task) (above : ℕ → Bool) (f : Task → ℕ) → n ≤ length tasks → sum n above (λ j. f (taskAt tasks j)) ≡ sum (length (take n tasks)) above (λ j. f (taskAt (take n tasks) j))
+sum-first n tasks above f h =
+    rw (length-take-le n tasks h)
+    (sum-cong n above (λ j. f (taskAt tasks j)) (λ j. f (taskAt (take n tasks) j)) (λ j l. ap f (sym (getD-take n tasks j blankTask l))))
+
+pub demand-first : (n : ℕ) (tasks : List Task) (i : ℕ) (above : ℕ → Bool) (w : ℕ) → n ≤ length tasks → i < n → taskAt tasks i .blocking + taskAt tasks i .execution + sum n above (λ j. interference (taskAt tasks j) w) ≡ demand (take n tasks) i above w
+unfolding demand
+demand-first n tasks i above w h l =
+    rw (getD-take n tasks i blankTask l, sum-first n tasks above (λ t. interference t w) h)
+
+-- the interference of 64 tasks is far from what a word holds
+pub interference-sum : (n j : ℕ) (tasks : List Task) (above : ℕ → Bool) (w : ℕ) → ((k : ℕ) → k < n → InRanges (taskAt tasks k)) → n ≤ maxTasks → w ≤ maxPeriod → j ≤ n → sum j above (λ k. interference (taskAt tasks k) w) ≤ maxTasks * (3 * maxPeriod)
+interference-sum n j tasks above w rows few short h =
+    let each : w + 2 * maxPeriod ≤ 3 * maxPeriod = omega arith in
+    le-trans
+    (sum-le j above (λ k. interference (taskAt tasks k) w) (w + 2 * maxPeriod) (λ k l t. interference-le (taskAt tasks k) w (rows k (lt-of-lt-of-le l h))))
+    (mul-le-mul (le-trans h few) each)
+
+-- a loop that adds up terms: before it, one turn, and after it
+pub sum-start : (base : ℕ) (above : ℕ → Bool) (f : ℕ → ℕ) → base ≡ base + sum 0 above f
+sum-start base above f = omega (arith, sum-none above f)
+
+pub sum-turn : (total base j : ℕ) (above : ℕ → Bool) (f : ℕ → ℕ) (x : ℕ) → total ≡ base + sum j above f → x ≡ pick (above j) (f j) 0 → total + x ≡ base + sum (j + 1) above f
+sum-turn total base j above f x e k = omega (arith, sum-more j above f)
+
+pub sum-end : (total base j n : ℕ) (above : ℕ → Bool) (f : ℕ → ℕ) → total ≡ base + sum j above f → j ≤ n → n ≤ j → total ≡ base + sum n above f
+sum-end total base j n above f e under over =
+    let h : j ≡ n = omega arith in
+    subst (λ (m : ℕ). total ≡ base + sum m above f) h e
+
 -- ---- where the climb starts
 
 -- the load of a task as a multiple of 2⁻³², rounded down
@@ -158,6 +198,16 @@ rate t = t .execution * scale / t .period
 
 abbrev pub loadOf : List Task → (ℕ → Bool) → ℕ
 loadOf tasks above = sum (length tasks) above (λ j. rate (taskAt tasks j))
+
+-- a task's rate is at most the whole
+pub rate-whole : (t : Task) → InRanges t → rate t ≤ scale
+rate-whole t r =
+    div-le-of-le-mul (t .period) (mul-le-mul-right scale (r .execution .1))
+
+pub rate-sum : (n j : ℕ) (tasks : List Task) (above : ℕ → Bool) → ((k : ℕ) → k < n → InRanges (taskAt tasks k)) → n ≤ maxTasks → j ≤ n → sum j above (λ k. rate (taskAt tasks k)) ≤ maxTasks * scale
+rate-sum n j tasks above rows few h =
+    le-trans (sum-le j above (λ k. rate (taskAt tasks k)) scale (λ k l t. rate-whole (taskAt tasks k) (rows k (lt-of-lt-of-le l h))))
+    (mul-le-mul-right scale (le-trans h few))
 
 -- v microseconds bring at least v times the load
 rate-le : (t : Task) (v : ℕ) → 1 ≤ t .period → v * rate t ≤ scale * interference t v
@@ -195,3 +245,49 @@ module _ (tasks : List Task) (i : ℕ) (above : ℕ → Bool) (rows : (j : ℕ) 
       let h = load-le v met in
       let e = mul-sub v scale (loadOf tasks above) in
       ceil-least (base * scale) (scale - loadOf tasks above) v (omega arith) (omega arith)
+
+-- ---- a task of a task set that calls made: the search's answers
+
+module _ (set : TaskSet) (made : isMade set ≡ true) (i : ℕ) (here : i < set .ntasks) (above : ℕ → Bool) where
+  abbrev d : ℕ → ℕ
+  d = demand (rows set) i above
+
+  abbrev own : Task
+  own = taskAt (set .tasks) i
+
+  at-row : taskAt (rows set) i ≡ own
+  at-row = getD-take (set .ntasks) (set .tasks) i blankTask here
+
+  periods : (j : ℕ) → j < length (rows set) → 1 ≤ taskAt (rows set) j .period
+  periods j h = rows-row set made j h .period .0
+
+  -- a jitter beyond the limit
+  pub late-by-jitter : (limit : ℕ) → limit < own .jitter → Late ≡ responseOf d (taskAt (rows set) i .jitter) limit
+  late-by-jitter limit h = response-is d (taskAt (rows set) i .jitter) limit Late (λ w low met. omega (arith, ap (λ (t : Task). t .jitter) at-row))
+
+  -- a load of the whole processor
+  pub late-by-load : (limit load : ℕ) → load ≡ loadOf (rows set) above → scale ≤ load → Late ≡ responseOf d (taskAt (rows set) i .jitter) limit
+  late-by-load limit load e h =
+      response-is d (taskAt (rows set) i .jitter) limit Late
+      (λ w low met. absurd (overloaded (rows set) i above periods (subst (λ (t : Task). 1 ≤ t .blocking + t .execution) (sym at-row) (let r = passes-row set made i here in omega (arith, r .execution))) (subst (λ (x : ℕ). scale ≤ x) e h) w met))
+
+  -- the start of the climb is positive and bounds every solution
+  abbrev start : ℕ → ℕ
+  start load = ceil ((own .blocking + own .execution) * scale) (scale - load)
+
+  pub start-positive : (load : ℕ) → load < scale → 1 ≤ start load
+  start-positive load h =
+      let r = passes-row set made i here in
+      let room : 0 < scale - load = omega arith in
+      let once : 1 * (scale - load) ≤ (own .blocking + own .execution) * scale + (scale - load - 1) = omega (arith, one-mul (scale - load), r .execution) in
+      le-div-iff-mul-le room .1 once
+
+  pub start-below : (load : ℕ) → load ≡ loadOf (rows set) above → load < scale → Bounds d (start load)
+  start-below load e h =
+      subst (λ (t : Task). Bounds d (ceil ((t .blocking + t .execution) * scale) (scale - load))) at-row
+      (rw e (start-bounds (rows set) i above periods (subst (λ (x : ℕ). x < scale) e h)))
+
+  -- the response of the window that was found
+  pub found-response : (limit : ℕ) (a : Window) → a ≡ windowOf d (limit - own .jitter) → respond (own .jitter) a ≡ responseOf d (taskAt (rows set) i .jitter) limit
+  unfolding responseOf
+  found-response limit a e = rw (at-row, e)

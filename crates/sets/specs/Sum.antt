@@ -2,7 +2,7 @@
 use mathlib.Core.Path.{_≡_, refl, sym, _∙_}
 use mathlib.Core.Bool.{Bool, true, false}
 use Prim.Native.Nat.{ℕ, zero, suc, _+_, _*_, _≤_, _<_, max}
-use native.Mathlib.Nat.{le-refl, le-step, le-trans, le-of-eq, not-suc-le-zero, add-le-add, mul-zero, zero-mul, suc-mul, mul-add, max-le, le-max-left, le-max-right}
+use native.Mathlib.Nat.{le-refl, le-step, le-trans, le-antisymm, le-of-eq, not-suc-le-zero, add-le-add, mul-zero, zero-mul, suc-mul, mul-add, max-le, le-max-left, le-max-right}
 use native.Mathlib.Numerals.{add-one}
 use native.Mathlib.Omega.{arith}
 use lib.Dec.{T}
@@ -37,6 +37,12 @@ sum-mono zero B A f g w h = le-refl 0
 sum-mono (suc n) B A f g w h =
     add-le-add (sum-mono n B A f g (λ j l. w j (le-step l)) (λ j l. h j (le-step l)))
     (term-mono (B n) (A n) (f n) (g n) (w n (le-refl (suc n))) (h n (le-refl (suc n))))
+
+-- equal terms give equal sums
+pub sum-cong : (n : ℕ) (A : ℕ → Bool) (f g : ℕ → ℕ) → ((j : ℕ) → j < n → f j ≡ g j) → sum n A f ≡ sum n A g
+sum-cong n A f g h =
+    le-antisymm (sum-mono n A A f g (λ j l t. t) (λ j l t. le-of-eq (h j l)))
+    (sum-mono n A A g f (λ j l t. t) (λ j l t. le-of-eq (sym (h j l))))
 
 -- terms of at most b each
 pub sum-le : (n : ℕ) (A : ℕ → Bool) (f : ℕ → ℕ) (b : ℕ) → ((j : ℕ) → j < n → T (A j) → f j ≤ b) → sum n A f ≤ n * b

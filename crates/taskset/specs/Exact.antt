@@ -9,7 +9,7 @@ use native.Mathlib.Nat.{zero-lt-suc}
 use native.Mathlib.Numerals.{add-one}
 use native.Mathlib.Omega.{arith}
 use lib.Dec.{T, leb, ltb, eqb, eqb→eq, leb→le, eqb·suc-zero}
-use lib.ListN.{length, getD, set, take, drop, replicate, length-append, length-replicate, getD-replicate, List·getD-append}
+use lib.ListN.{length, getD, set, take, drop, replicate, length-append, length-take, length-replicate, getD-replicate, List·getD-append}
 use lib.Seq.{length-take-le, set-append-seam, getD-append-seam, getD-append-add, getD-take, append-snoc, ext-getD}
 use borrow.Author.Tests.{lt-ltb, le-ltb, le-leb, eqb-true, ltb-true, ltb-false, leb-true}
 use Rattle.sets.specs.Choice.{pick, T→true, true→T, and-intro, and-left, and-right}
@@ -184,8 +184,14 @@ made-passes s m =
     ∙ sound-made (heard noLists (m .0)) (heard-sound noLists none-sound (m .0))
 
 -- the lists in a set's used entries
+abbrev pub rows : TaskSet → List Task
+rows s = take (s .ntasks) (s .tasks)
+
+abbrev pub rules : TaskSet → List Rule
+rules s = take (s .nrules) (s .rules)
+
 abbrev pub lists : TaskSet → Lists
-lists s = record { tasks = take (s .ntasks) (s .tasks); rules = take (s .nrules) (s .rules) }
+lists s = record { tasks = rows s; rules = rules s }
 
 -- a value of the code's type has arrays of these sizes
 abbrev pub Sized : TaskSet → Type 0
@@ -273,11 +279,19 @@ passed s e =
       rules = all-at maxRules (entry (ruleFits (s .ntasks)) blankRule (s .nrules) (s .rules)) (and-right (a && b && c) d abcd)
     }
 
--- so a used row is within its ranges
+-- so there are few enough tasks, and a used row is within its ranges
+pub passes-few : (s : TaskSet) → isMade s ≡ true → s .ntasks ≤ maxTasks
+passes-few s e = passed s e .few-tasks
+
 pub passes-row : (s : TaskSet) → isMade s ≡ true → (i : ℕ) → i < s .ntasks → InRanges (getD (s .tasks) i blankTask)
 passes-row s e i h =
     let few = passed s e .few-tasks in
     accepted-task (getD (s .tasks) i blankTask) (rw (lt-ltb i (s .ntasks) h) at (passed s e .tasks i (omega arith)))
+
+pub rows-row : (s : TaskSet) → isMade s ≡ true → (i : ℕ) → i < length (rows s) → InRanges (getD (rows s) i blankTask)
+rows-row s e i h =
+    let under : i < s .ntasks = omega (arith, length-take (s .ntasks) (s .tasks)) in
+    rw (getD-take (s .ntasks) (s .tasks) i blankTask under) (passes-row s e i under)
 
 -- what passes holds its lists, and adding has taken them
 module _ (s : TaskSet) (size : Sized s) (e : isMade s ≡ true) where

@@ -1,0 +1,45 @@
+-- `response::climb` meets its contract: no solution lies below w, and w rises to its demand. Assumes nothing.
+use mathlib.Core.Path.{sym, subst}
+use Prim.Native.Nat.{ℕ, _+_, _-_, _≤_}
+use native.Mathlib.Nat.{lt-of-lt-of-le}
+use native.Mathlib.Omega.{arith}
+use borrow.Author.Needs.{needs}
+use Rattle.taskset.specs.Exact.{rows}
+use Rattle.response.specs.declared.Window.the-variants.{At, Beyond}
+use Rattle.response.specs.Equation.{marked, demand}
+use Rattle.response.specs.Laws.{Bounds, climb, demand-mono, window-is}
+use Rattle.response.proofs.climb.Statement.{statement}
+use Rattle.response.proofs.climb.Tie as tie
+
+abbrev Inv-loop : tie.InvT-loop
+Inv-loop set task above start room w₀ w = (1 ≤ w) × Bounds (demand (rows set) (task .0) (marked above)) w
+
+abbrev μ-loop : tie.MeasureT-loop
+μ-loop set task above start room w₀ w = room + 1 - w
+
+loop-holds : tie.Need-loop-holds Inv-loop μ-loop
+loop-holds c = (c .pre .1 .1 .1 .0, c .pre .1 .1 .1 .1)
+
+demand-requires : tie.Need-demand-requires Inv-loop μ-loop
+demand-requires c κs = (c .before .before .pre .0, (c .before .before .pre .1 .0, omega arith))
+
+loop-less : tie.Need-loop-less Inv-loop μ-loop
+loop-less c = omega arith
+
+loop-again : tie.Need-loop-again Inv-loop μ-loop
+loop-again c =
+    let inv = c .before .before .before .loop .inv in
+    (omega arith, subst (Bounds _) (sym (c .before .demand .ensures)) (climb _ (demand-mono _ _ _) _ (inv .1)))
+
+returns : tie.Need-returns Inv-loop μ-loop
+returns c = window-is _ _ Beyond (λ v low met. lt-of-lt-of-le (c .if1 .taken) (c .before .loop .inv .1 v low met))
+
+returns-2 : tie.Need-returns-2 Inv-loop μ-loop
+returns-2 c =
+    let inv = c .before .before .before .loop .inv in
+    window-is _ _ (At _) (record { low = inv .0; met = omega (arith, c .before .demand .ensures); least = inv .1 }, c .before .before .if1 .left)
+
+pub climb-spec : {M : Type 1} → statement M
+climb-spec =
+    tie.close
+    (tie.spec Inv-loop μ-loop loop-holds demand-requires loop-less loop-again returns returns-2)

@@ -1,2 +1,5 @@
 pub mod Equation
-pub mod Laws
+pub mod Agreement
+pub mod Demand
+pub mod Climb
+pub mod Examples

@@ -3,14 +3,12 @@
 ghost use mathlib.Core.Path.{_≡_};
 ghost use mathlib.Core.Bool.{true};
 ghost use Prim.Native.Nat.{_+_, _*_, _≤_, _<_};
-ghost use lib.ListN.{getD};
 ghost use Rattle.sets.specs.Choice.{pick};
 ghost use Rattle.taskset.specs.Rows.{maxPeriod, InRanges};
-ghost use Rattle.taskset.specs.Adding.{isMade};
-ghost use Rattle.taskset.specs.Exact.{rows};
+ghost use Rattle.taskset.specs.Adding.{rows, isMade};
 ghost use Rattle.response.specs.Equation.{ceil, taskAt, marked, interference, demand, windowOf, responseOf};
-ghost use Rattle.response.specs.Laws.{Bounds, rate, loadOf};
-
+ghost use Rattle.response.specs.Climb.{rate, loadOf};
+ghost use Rattle.response.specs.Agreement.{Bounds};
 use taskset::MAX_TASKS;
 use taskset::Task;
 use taskset::TaskIndex;
@@ -122,7 +120,12 @@ fn climb(set: TaskSet, task: TaskIndex, above: [bool; MAX_TASKS], start: u64, ro
 }
 
 // The response of a task with the marked tasks above it, searched for up to a limit.
-pub fn response_time(set: TaskSet, task: TaskIndex, above: [bool; MAX_TASKS], limit: u64) -> Response
+pub fn response_time(
+    set: TaskSet,
+    task: TaskIndex,
+    above: [bool; MAX_TASKS],
+    limit: u64,
+) -> Response
     requires { ⌜ isMade set ≡ true ⌝ }
     requires { ⌜ task .0 < set .ntasks ⌝ }
     requires { ⌜ limit ≤ maxPeriod ⌝ }

@@ -2,7 +2,7 @@
 -- A set of numbers is a test, ℕ → Bool, of which only what lies below the bound counts. Assumes nothing.
 use mathlib.Core.Path.{_≡_, refl, subst}
 use mathlib.Core.Bool.{Bool, true, false, _&&_, _||_}
-use mathlib.Core.Logic.{_⊎_, inl, inr, ⊎-elim}
+use mathlib.Core.Logic.{⊎-elim}
 use mathlib.Core.Option.{Option, none, some}
 use Prim.Native.Nat.{ℕ, zero, suc, _+_, _≤_, _<_}
 use native.Mathlib.Nat.{not-suc-le-zero, le-of-suc-le-suc, eq-or-lt-of-le, le-refl, le-step, not-suc-le-self, lt-of-lt-of-le, add-le-add, add-lt-add-of-lt-of-le, add-lt-add-of-le-of-lt}
@@ -100,7 +100,7 @@ greater n p r not-n (found k g) =
     (record {
       below = le-step (g .below);
       passes = g .passes;
-      last = below-suc (λ j. k < j → T (p j) → ⊥) n (g .last) (λ l. not-n)
+      last = below-suc (λ j. k < j → T (p j) → ⊥) n (g .last) (λ l. not-n);
     })
 greater n p r not-n (nothing none-passes) = nothing (below-suc (λ j. T (p j) → ⊥) n none-passes not-n)
 
@@ -149,8 +149,10 @@ count-less (suc n) B A w k h a b =
   where
     under : Subset n B A
     under j l = w j (le-step l)
+
     step : pick (B n) 1 0 ≤ pick (A n) 1 0
     step = step-le (A n) (B n) (w n (le-refl (suc n)))
+
     at-n : k ≡ n → count (suc n) B < count (suc n) A
     at-n e =
         let a′ = T→true (A n) (subst (λ (m : ℕ). T (A m)) e a) in

@@ -1,5 +1,5 @@
 -- Sums and maxima over a marked set of the numbers below a bound. Assumes nothing.
-use mathlib.Core.Path.{_≡_, refl, sym, _∙_}
+use mathlib.Core.Path.{_≡_, refl, sym, _∙_, subst}
 use mathlib.Core.Bool.{Bool, true, false}
 use Prim.Native.Nat.{ℕ, zero, suc, _+_, _*_, _≤_, _<_, max}
 use native.Mathlib.Nat.{le-refl, le-step, le-trans, le-antisymm, le-of-eq, not-suc-le-zero, add-le-add, mul-zero, zero-mul, suc-mul, mul-add, max-le, le-max-left, le-max-right}
@@ -23,6 +23,18 @@ sum-none A f = refl
 pub sum-more : (i : ℕ) (A : ℕ → Bool) (f : ℕ → ℕ) → sum (i + 1) A f ≡ sum i A f + pick (A i) (f i) 0
 unfolding sum
 sum-more i A f = rw add-one
+
+-- the total of such a loop, from a base: before it, after one turn more, at its end
+pub sum-start : (base : ℕ) (above : ℕ → Bool) (f : ℕ → ℕ) → base ≡ base + sum 0 above f
+sum-start base above f = omega (arith, sum-none above f)
+
+pub sum-turn : (total base j : ℕ) (above : ℕ → Bool) (f : ℕ → ℕ) (x : ℕ) → total ≡ base + sum j above f → x ≡ pick (above j) (f j) 0 → total + x ≡ base + sum (j + 1) above f
+sum-turn total base j above f x e k = omega (arith, sum-more j above f)
+
+pub sum-end : (total base j n : ℕ) (above : ℕ → Bool) (f : ℕ → ℕ) → total ≡ base + sum j above f → j ≤ n → n ≤ j → total ≡ base + sum n above f
+sum-end total base j n above f e under over =
+    let h : j ≡ n = omega arith in
+    subst (λ (m : ℕ). total ≡ base + sum m above f) h e
 
 term-mono : (b a : Bool) (x y : ℕ) → (T b → T a) → (T b → x ≤ y) → pick b x 0 ≤ pick a y 0
 term-mono true true x y f g = g tt

@@ -1,9 +1,9 @@
 -- Document 01, "Calls on a sheet" and refusal 14: a fresh task set, adding a task, adding a rule. Assumes nothing.
-use mathlib.Core.Bool.{Bool, true, false, not, _&&_, _||_}
-use mathlib.Core.List.{List, [], _∷_, _++_}
+use mathlib.Core.Bool.{Bool, _&&_}
+use mathlib.Core.List.{List}
 use Prim.Native.Nat.{ℕ, _+_}
 use lib.Dec.{leb, ltb, eqb}
-use lib.ListN.{getD, set, replicate}
+use lib.ListN.{getD, take, set, replicate}
 use Rattle.sets.specs.Choice.{pick}
 use Rattle.sets.specs.Bounded.{all}
 use Rattle.taskset.specs.declared.Task.{Task}
@@ -21,6 +21,13 @@ blankRule = record { higher = record { 0 = 0 }; lower = record { 0 = 0 } }
 
 abbrev pub freshSet : TaskSet
 freshSet = record { tasks = replicate maxTasks blankTask; ntasks = 0; rules = replicate maxRules blankRule; nrules = 0 }
+
+-- the used entries: all that the theory sees of a set
+abbrev pub rows : TaskSet → List Task
+rows s = take (s .ntasks) (s .tasks)
+
+abbrev pub rules : TaskSet → List Rule
+rules s = take (s .nrules) (s .rules)
 
 -- ---- refusal 14
 

@@ -1,7 +1,6 @@
 -- Lists of adding calls: the task set that the calls make, and the reference model, which is document 01's sceptic.
 -- Assumes nothing.
 use mathlib.Core.Path.{_≡_}
-use mathlib.Core.Bool.{Bool}
 use mathlib.Core.List.{List, [], _∷_, _++_}
 use Prim.Native.Nat.{ℕ}
 use lib.Dec.{eqb}
@@ -11,7 +10,7 @@ use Rattle.taskset.specs.declared.Task.{Task}
 use Rattle.taskset.specs.declared.Rule.{Rule}
 use Rattle.taskset.specs.declared.TaskSet.{TaskSet}
 use Rattle.taskset.specs.Rows.{taskRefusal, ruleRefusal}
-use Rattle.taskset.specs.Adding.{freshSet, addTask, addRule}
+use Rattle.taskset.specs.Adding.{freshSet, rows, rules, addTask, addRule}
 
 -- the arguments of an adding call, its task set aside
 pub data Call : Type 0 where
@@ -43,6 +42,10 @@ pub record Lists : Type 0 where
 
 abbrev pub noLists : Lists
 noLists = record { tasks = []; rules = [] }
+
+-- the lists in a set
+abbrev pub lists : TaskSet → Lists
+lists s = record { tasks = rows s; rules = rules s }
 
 -- the entry goes to the end where the call's refusal is 0
 abbrev pub append : {A : Type 0} → ℕ → List A → A → List A

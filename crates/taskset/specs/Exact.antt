@@ -9,17 +9,17 @@ use native.Mathlib.Nat.{zero-lt-suc}
 use native.Mathlib.Numerals.{add-one}
 use native.Mathlib.Omega.{arith}
 use lib.Dec.{T, leb, ltb, eqb, eqb→eq, leb→le, eqb·suc-zero}
-use lib.ListN.{length, getD, set, take, drop, replicate, length-append, length-take, length-replicate, getD-replicate, List·getD-append}
+use lib.ListN.{length, getD, set, take, replicate, length-append, length-take, length-replicate, getD-replicate, List·getD-append}
 use lib.Seq.{length-take-le, set-append-seam, getD-append-seam, getD-append-add, getD-take, append-snoc, ext-getD}
-use borrow.Author.Tests.{lt-ltb, le-ltb, le-leb, eqb-true, ltb-true, ltb-false, leb-true}
-use Rattle.sets.specs.Choice.{pick, T→true, true→T, and-intro, and-left, and-right}
+use borrow.Author.Tests.{lt-ltb, le-leb, ltb-true, ltb-false}
+use Rattle.sets.specs.Choice.{pick, T→true, true→T, and-left, and-right}
 use Rattle.sets.specs.Bounded.{all, all-of, all-at, below-suc}
 use Rattle.taskset.specs.declared.Task.{Task}
 use Rattle.taskset.specs.declared.Rule.{Rule}
 use Rattle.taskset.specs.declared.TaskSet.{TaskSet}
 use Rattle.taskset.specs.Rows.{maxTasks, maxRules, InRanges, Between, firstOf, rowRefusals, indexRefusals, taskRefusal, ruleRefusal}
-use Rattle.taskset.specs.Adding.{blankTask, blankRule, freshSet, taskFits, ruleFits, entry, isMade, withTask, withRule, adding, addTask, addRule}
-use Rattle.taskset.specs.Calls.{Call, task, rule, after, run, Made, Lists, noLists, append, hear, heard}
+use Rattle.taskset.specs.Adding.{blankTask, blankRule, freshSet, rows, taskFits, ruleFits, entry, isMade, withTask, withRule, adding}
+use Rattle.taskset.specs.Calls.{Call, task, rule, after, run, Made, Lists, noLists, lists, append, hear, heard}
 use Rattle.taskset.specs.Laws.{row-accepted, row-accepts, rule-accepted, rule-accepts, task-taken, task-taken-only, rule-taken, rule-taken-only}
 
 -- ---- a list in an array of n entries, the rest d
@@ -56,7 +56,7 @@ holding l =
       tasks = pad maxTasks blankTask (l .tasks);
       ntasks = length (l .tasks);
       rules = pad maxRules blankRule (l .rules);
-      nrules = length (l .rules)
+      nrules = length (l .rules);
     }
 
 -- ---- lists that adding has taken
@@ -73,7 +73,7 @@ none-sound =
       few-tasks = omega arith;
       few-rules = omega arith;
       rows = λ i h. absurd (omega arith);
-      indices = λ i h. absurd (omega arith)
+      indices = λ i h. absurd (omega arith);
     }
 
 -- ---- the check passes a set that holds such lists
@@ -96,7 +96,7 @@ sound-made l s =
       le-leb n maxTasks (s .few-tasks),
       le-leb (length (l .rules)) maxRules (s .few-rules),
       entries taskFits maxTasks blankTask (l .tasks) tt (λ i h. rw (row-accepts (getD (l .tasks) i blankTask) (s .rows i h)) tt),
-      entries (ruleFits n) maxRules blankRule (l .rules) tt (λ i h. rw (rule-accepts n (getD (l .rules) i blankRule) (s .indices i h)) tt)
+      entries (ruleFits n) maxRules blankRule (l .rules) tt (λ i h. rw (rule-accepts n (getD (l .rules) i blankRule) (s .indices i h)) tt),
     )
 
 -- ---- a call on a set that holds such lists makes one that holds what the reference model hears
@@ -146,7 +146,7 @@ hear-sound l s (task t) = go (taskRefusal (length (l .tasks)) t) refl
           few-tasks = omega (arith, ok .1);
           few-rules = s .few-rules;
           rows = each-more InRanges blankTask (l .tasks) t (s .rows) (row-accepted t (ok .0));
-          indices = λ i h. let b = s .indices i h in record { apart = b .apart; higher = omega arith; lower = omega arith }
+          indices = λ i h. let b = s .indices i h in record { apart = b .apart; higher = omega arith; lower = omega arith };
         }
     go (suc k) e = rw (eqb·suc-zero k) s
 hear-sound l s (rule r) = go (ruleRefusal (length (l .tasks)) (length (l .rules)) r) refl
@@ -159,7 +159,7 @@ hear-sound l s (rule r) = go (ruleRefusal (length (l .tasks)) (length (l .rules)
           few-tasks = s .few-tasks;
           few-rules = omega (arith, ok .1);
           rows = s .rows;
-          indices = each-more (Between (length (l .tasks))) blankRule (l .rules) r (s .indices) (rule-accepted (length (l .tasks)) r (ok .0))
+          indices = each-more (Between (length (l .tasks))) blankRule (l .rules) r (s .indices) (rule-accepted (length (l .tasks)) r (ok .0));
         }
     go (suc k) e = rw (eqb·suc-zero k) s
 
@@ -182,16 +182,6 @@ unfolding Made
 made-passes s m =
     ap isMade (sym (m .1) ∙ run-holding noLists none-sound (m .0))
     ∙ sound-made (heard noLists (m .0)) (heard-sound noLists none-sound (m .0))
-
--- the lists in a set's used entries
-abbrev pub rows : TaskSet → List Task
-rows s = take (s .ntasks) (s .tasks)
-
-abbrev pub rules : TaskSet → List Rule
-rules s = take (s .nrules) (s .rules)
-
-abbrev pub lists : TaskSet → Lists
-lists s = record { tasks = rows s; rules = rules s }
 
 -- a value of the code's type has arrays of these sizes
 abbrev pub Sized : TaskSet → Type 0
@@ -245,6 +235,7 @@ module _ {A : Type 0} (fits : Bool → A → Bool) (limit n : ℕ) (d : A) (xs :
       padded =
           length-append (take n xs) (replicate (limit - length (take n xs)) d)
           ∙ omega (arith, length-used, length-replicate (limit - length (take n xs)) d)
+
       go : (i : ℕ) → i < limit → (b : Bool) → ltb i n ≡ b → T (fits b (getD xs i d)) → getD (pad limit d (take n xs)) i d ≡ getD xs i d
       go i h true e t =
           let under = ltb-true i n e in
@@ -252,6 +243,7 @@ module _ {A : Type 0} (fits : Bool → A → Bool) (limit n : ℕ) (d : A) (xs :
       go i h false e t =
           let over = ltb-false i n e in
           pad-unused limit d (take n xs) i (omega (arith, length-used)) h ∙ sym (blank (getD xs i d) t)
+
       at : (i : ℕ) → i < length (pad limit d (take n xs)) → getD (pad limit d (take n xs)) i d ≡ getD xs i d
       at i h = let l : i < limit = omega (arith, padded) in go i l (ltb i n) refl (fit i l)
 
@@ -276,7 +268,7 @@ passed s e =
       few-tasks = leb→le (s .ntasks) maxTasks (and-left a b ab);
       few-rules = leb→le (s .nrules) maxRules (and-right a b ab);
       tasks = all-at maxTasks (entry taskFits blankTask (s .ntasks) (s .tasks)) (and-right (a && b) c abc);
-      rules = all-at maxRules (entry (ruleFits (s .ntasks)) blankRule (s .nrules) (s .rules)) (and-right (a && b && c) d abcd)
+      rules = all-at maxRules (entry (ruleFits (s .ntasks)) blankRule (s .nrules) (s .rules)) (and-right (a && b && c) d abcd);
     }
 
 -- so there are few enough tasks, and a used row is within its ranges
@@ -314,7 +306,7 @@ module _ (s : TaskSet) (size : Sized s) (e : isMade s ≡ true) where
         few-tasks = omega (arith, tasks-used, p .few-tasks);
         few-rules = omega (arith, rules-used, p .few-rules);
         rows = λ i h. accepted-task (getD (lists s .tasks) i blankTask) (entry-used taskFits maxTasks (s .ntasks) blankTask (s .tasks) (size .0) (p .few-tasks) (p .tasks) i h);
-        indices = λ i h. rw tasks-used (accepted-rule (s .ntasks) (getD (lists s .rules) i blankRule) (entry-used (ruleFits (s .ntasks)) maxRules (s .nrules) blankRule (s .rules) (size .1) (p .few-rules) (p .rules) i h))
+        indices = λ i h. rw tasks-used (accepted-rule (s .ntasks) (getD (lists s .rules) i blankRule) (entry-used (ruleFits (s .ntasks)) maxRules (s .nrules) blankRule (s .rules) (size .1) (p .few-rules) (p .rules) i h));
       }
 
 -- lists that adding takes are heard whole
@@ -347,9 +339,10 @@ heard-all l s =
 -- what passes is made by calls
 pub passes-made : (s : TaskSet) → Sized s → isMade s ≡ true → Made s
 unfolding Made
-passes-made s size e =
-    (callsOf (lists s),
-    run-holding noLists none-sound (callsOf (lists s)) ∙ ap holding (heard-all (lists s) (passes-sound s size e)) ∙ passes-holding s size e)
+passes-made s size e = (
+  callsOf (lists s),
+  run-holding noLists none-sound (callsOf (lists s)) ∙ ap holding (heard-all (lists s) (passes-sound s size e)) ∙ passes-holding s size e,
+)
 
 -- so an answer that is the check's says whether calls make the set
 pub passes-exact : (s : TaskSet) → Sized s → (r : Bool) → r ≡ isMade s → (r ≡ true) ↔ Made s

@@ -1,6 +1,6 @@
 -- Laws of the refusals and of adding, for proofs to cite. Assumes nothing.
 use mathlib.Core.Path.{_≡_, refl, sym, _∙_}
-use mathlib.Core.Bool.{Bool, true, false, not, _||_, _&&_}
+use mathlib.Core.Bool.{Bool, true, false, _||_}
 use mathlib.Core.List.{List, [], _∷_, _++_}
 use Prim.Native.Nat.{ℕ, zero, suc, _-_, _≤_, _<_}
 use native.Mathlib.Nat.{suc-ne-zero}
@@ -11,7 +11,6 @@ use Rattle.sets.specs.Choice.{pick}
 use Rattle.taskset.specs.declared.Task.{Task}
 use Rattle.taskset.specs.declared.Rule.{Rule}
 use Rattle.taskset.specs.declared.TaskSet.{TaskSet}
-use Rattle.taskset.specs.declared.Added.{Added}
 use Rattle.taskset.specs.Rows.{maxTasks, maxRules, maxPeriod, InRanges, Between, firstOf, outside, rowRefusals, indexRefusals, taskRefusal, ruleRefusal}
 use Rattle.taskset.specs.Adding.{isMade, adding}
 
@@ -51,7 +50,7 @@ first-append [] ys h = refl
 first-append (x ∷ xs) ys h = go (x .1) (first-append xs ys (h .1))
   where
     go : (b : Bool) → firstOf (xs ++ ys) ≡ pick (eqb (firstOf xs) 0) (firstOf ys) (firstOf xs)
-      → pick b (x .0) (firstOf (xs ++ ys)) ≡ pick (eqb (pick b (x .0) (firstOf xs)) 0) (firstOf ys) (pick b (x .0) (firstOf xs))
+        → pick b (x .0) (firstOf (xs ++ ys)) ≡ pick (eqb (pick b (x .0) (firstOf xs)) 0) (firstOf ys) (pick b (x .0) (firstOf xs))
     go true e = let l = ltb→lt 0 (x .0) (h .0) in rw (ne-eqb (x .0) 0 (λ z. omega arith))
     go false e = e
 
@@ -76,7 +75,7 @@ row-accepted t e =
       execution = (outside-low 1 (t .period) (t .execution) (c .0), outside-high 1 (t .period) (t .execution) (c .0));
       deadline = (outside-low 1 (t .period) (t .deadline) (d .0), outside-high 1 (t .period) (t .deadline) (d .0));
       jitter = omega arith;
-      blocking = outside-high 0 (t .period) (t .blocking) (b .0)
+      blocking = outside-high 0 (t .period) (t .blocking) (b .0);
     }
 
 inside : (low high x : ℕ) → low ≤ x → x ≤ high → outside low high x ≡ false
@@ -90,7 +89,7 @@ row-accepts t r =
       inside 1 (t .period) (t .execution) (r .execution .0) (r .execution .1),
       inside 1 (t .period) (t .deadline) (r .deadline .0) (r .deadline .1),
       inside 0 (t .period - 1) (t .jitter) (omega arith) (omega arith),
-      inside 0 (t .period) (t .blocking) (omega arith) (r .blocking)
+      inside 0 (t .period) (t .blocking) (omega arith) (r .blocking),
     )
 
 pub rule-accepted : (n : ℕ) (r : Rule) → firstOf (indexRefusals n r) ≡ 0 → Between n r
@@ -101,7 +100,7 @@ rule-accepted n r e =
     record {
       apart = eqb-false _ _ (same .0);
       higher = leb-false n _ (or-false-left (leb n (r .higher .0)) (leb n (r .lower .0)) (missing .0));
-      lower = leb-false n _ (or-false-right (leb n (r .higher .0)) (leb n (r .lower .0)) (missing .0))
+      lower = leb-false n _ (or-false-right (leb n (r .higher .0)) (leb n (r .lower .0)) (missing .0));
     }
 
 pub rule-accepts : (n : ℕ) (r : Rule) → Between n r → firstOf (indexRefusals n r) ≡ 0

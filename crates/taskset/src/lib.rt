@@ -9,7 +9,9 @@ ghost use Rattle.taskset.specs.Adding.{blankTask, blankRule, freshSet, i
 ghost use Rattle.taskset.specs.Calls.{Made};
 
 pub const MAX_TASKS: usize = 64;
+
 pub const MAX_RULES: usize = 128;
+
 pub const MAX_PERIOD: u64 = 1000000;
 
 // A task's place in its set, counted from 0 in the order of adding.
@@ -221,7 +223,10 @@ impl TaskSet {
         ensures { λ r. ⌜ r ≡ addTask self task ⌝ }
     {
         if !self.is_made() {
-            return Added { refusal: 14, set: self };
+            return Added {
+                refusal: 14,
+                set: self,
+            };
         }
         let n = self.ntasks;
         let refusal = task_refusal(n, task);
@@ -239,7 +244,10 @@ impl TaskSet {
         ensures { λ r. ⌜ r ≡ addRule self rule ⌝ }
     {
         if !self.is_made() {
-            return Added { refusal: 14, set: self };
+            return Added {
+                refusal: 14,
+                set: self,
+            };
         }
         let n = self.ntasks;
         let m = self.nrules;

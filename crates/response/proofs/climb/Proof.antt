@@ -1,13 +1,13 @@
 -- `response::climb` meets its contract: no solution lies below w, and w rises to its demand. Assumes nothing.
 use mathlib.Core.Path.{sym, subst}
-use Prim.Native.Nat.{ℕ, _+_, _-_, _≤_}
+use Prim.Native.Nat.{_+_, _-_, _≤_}
 use native.Mathlib.Nat.{lt-of-lt-of-le}
 use native.Mathlib.Omega.{arith}
-use borrow.Author.Needs.{needs}
-use Rattle.taskset.specs.Exact.{rows}
+use Rattle.taskset.specs.Adding.{rows}
 use Rattle.response.specs.declared.Window.the-variants.{At, Beyond}
 use Rattle.response.specs.Equation.{marked, demand}
-use Rattle.response.specs.Laws.{Bounds, climb, demand-mono, window-is}
+use Rattle.response.specs.Demand.{demand-mono}
+use Rattle.response.specs.Agreement.{Bounds, climb, window-is}
 use Rattle.response.proofs.climb.Statement.{statement}
 use Rattle.response.proofs.climb.Tie as tie
 

@@ -1,14 +1,13 @@
 -- `response::demand` meets its contract: after j tasks the sum is what those bring. Assumes nothing.
 use mathlib.Core.Path.{_≡_, sym, _∙_}
-use Prim.Native.Nat.{ℕ, _+_, _*_, _-_, _≤_, _<_}
+use Prim.Native.Nat.{ℕ, _+_, _-_, _≤_, _<_}
 use native.Mathlib.Omega.{arith}
-use borrow.Author.Needs.{needs}
 use lib.ListN.{length, length-map}
-use Rattle.sets.specs.Sum.{sum}
-use Rattle.taskset.specs.Rows.{maxTasks, maxPeriod, InRanges}
+use Rattle.sets.specs.Sum.{sum, sum-start, sum-turn, sum-end}
+use Rattle.taskset.specs.Rows.{maxTasks, InRanges}
 use Rattle.taskset.specs.Exact.{passes-few, passes-row}
 use Rattle.response.specs.Equation.{taskAt, marked, interference}
-use Rattle.response.specs.Laws.{interference-sum, sum-start, sum-turn, sum-end, demand-first}
+use Rattle.response.specs.Demand.{interference-sum, demand-first}
 use Rattle.response.proofs.demand.Statement.{statement}
 use Rattle.response.proofs.demand.Tie as tie
 

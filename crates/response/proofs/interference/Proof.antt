@@ -1,10 +1,8 @@
 -- `response::interference` meets its contract: a task in its ranges brings too little to overflow. Assumes nothing.
-use mathlib.Core.Path.{ap}
-use Prim.Native.Nat.{ℕ, _*_}
 use native.Mathlib.Omega.{arith}
 use borrow.Author.Needs.{needs}
 use Rattle.response.specs.Equation.{interference}
-use Rattle.response.specs.Laws.{interference-le}
+use Rattle.response.specs.Demand.{interference-le}
 use Rattle.response.proofs.interference.Statement.{statement}
 use Rattle.response.proofs.interference.Tie as tie
 

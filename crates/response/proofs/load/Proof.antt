@@ -3,13 +3,13 @@ use mathlib.Core.Path.{_≡_, sym, _∙_}
 use Prim.Native.Nat.{ℕ, _+_, _-_, _≤_, _<_}
 use native.Mathlib.Nat.{zero-add}
 use native.Mathlib.Omega.{arith}
-use borrow.Author.Needs.{needs}
 use lib.ListN.{length, length-map}
-use Rattle.sets.specs.Sum.{sum}
+use Rattle.sets.specs.Sum.{sum, sum-start, sum-turn, sum-end}
 use Rattle.taskset.specs.Rows.{maxTasks, InRanges}
 use Rattle.taskset.specs.Exact.{passes-few, passes-row}
 use Rattle.response.specs.Equation.{taskAt, marked}
-use Rattle.response.specs.Laws.{rate, rate-sum, sum-start, sum-turn, sum-end, sum-first}
+use Rattle.response.specs.Demand.{sum-first}
+use Rattle.response.specs.Climb.{rate, rate-sum}
 use Rattle.response.proofs.load.Statement.{statement}
 use Rattle.response.proofs.load.Tie as tie
 
@@ -61,9 +61,10 @@ loop-less : tie.Need-loop-less Inv-loop μ-loop
 loop-less c = omega arith
 
 loop-again : tie.Need-loop-again Inv-loop μ-loop
-loop-again c =
-    (omega arith,
-    sum-turn _ _ (c .before .before .before .loop .j) _ _ _ (c .before .before .before .loop .inv .1) (c .rate .ensures))
+loop-again c = (
+  omega arith,
+  sum-turn _ _ (c .before .before .before .loop .j) _ _ _ (c .before .before .before .loop .inv .1) (c .rate .ensures),
+)
 
 returns : tie.Need-returns Inv-loop μ-loop
 returns c =

@@ -1,8 +1,6 @@
 use borrow.Author.Needs.{needs}
 use Rattle.response.proofs.rate.Statement.{statement}
 use Rattle.response.proofs.rate.Tie as tie
-use Rattle.response.proofs.rate.Reads as reads
-use Rattle.response.proofs.rate.Lts as lts
 
 -- src/lib.rt:80:16
 mul-result : tie.Need-mul-result

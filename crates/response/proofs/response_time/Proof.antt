@@ -1,12 +1,13 @@
 -- `response::response_time` meets its contract. Assumes nothing.
-use mathlib.Core.Path.{sym, _∙_, ap, subst}
+use mathlib.Core.Path.{sym, _∙_, ap}
 use Prim.Native.Nat.{_≤_}
 use native.Mathlib.Omega.{arith}
 use borrow.Author.Needs.{needs}
 use Rattle.taskset.specs.Rows.{maxTasks, InRanges}
 use Rattle.taskset.specs.Exact.{passes-few, passes-row}
 use Rattle.response.specs.Equation.{taskAt, marked, respond}
-use Rattle.response.specs.Laws.{rate-sum, late-by-jitter, late-by-load, start-positive, start-below, found-response, window-room}
+use Rattle.response.specs.Climb.{late-by-jitter, late-by-load, start-positive, start-below, found-response}
+use Rattle.response.specs.Agreement.{window-room}
 use Rattle.response.proofs.response_time.Statement.{statement}
 use Rattle.response.proofs.response_time.Tie as tie
 
@@ -56,12 +57,19 @@ climb-requires c κs =
     let s = c .before .before .before .before .before .before .before .before .before in
     let load = c .before .before .before .before .before .before .load in
     let under = c .before .before .before .if2 .left in
-    let e = c .before .ceil-div .ensures in
-    (s .pre .0,
-    (s .pre .1 .0,
-    (omega arith,
-    (rw e (start-positive (s .args .set) (s .pre .0) (s .args .task .0) (s .pre .1 .0) (marked (s .args .above)) (load .result) under),
-    rw e (start-below (s .args .set) (s .pre .0) (s .args .task .0) (s .pre .1 .0) _ (load .result) (load .ensures) under)))))
+    let e = c .before .ceil-div .ensures in (
+      s .pre .0,
+      (
+        s .pre .1 .0,
+        (
+          omega arith,
+          (
+            rw e (start-positive (s .args .set) (s .pre .0) (s .args .task .0) (s .pre .1 .0) (marked (s .args .above)) (load .result) under),
+            rw e (start-below (s .args .set) (s .pre .0) (s .args .task .0) (s .pre .1 .0) _ (load .result) (load .ensures) under),
+          ),
+        ),
+      ),
+    )
 
 enum-known-w : tie.Need-enum-known-w
 enum-known-w c = search needs

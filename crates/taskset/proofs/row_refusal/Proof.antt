@@ -1,5 +1,5 @@
 -- `taskset::row_refusal` meets its contract: each test is known where the next one is made. Assumes nothing.
-use mathlib.Core.Path.{_≡_, refl, sym, _∙_}
+use mathlib.Core.Path.{_≡_, sym, _∙_}
 use mathlib.Core.Bool.{false}
 use Prim.Native.Nat.{_-_}
 use borrow.Author.Needs.{needs}
@@ -54,7 +54,7 @@ returns-4 c =
       period-in (c .before .before .before .before .before .before),
       execution-in (c .before .before .before .before),
       deadline-in (c .before .before),
-      sym (c .before .outside4 .ensures) ∙ c .if4 .taken
+      sym (c .before .outside4 .ensures) ∙ c .if4 .taken,
     )
 
 outside-requires-5 : tie.Need-outside-requires-5
@@ -68,7 +68,7 @@ returns-5 c =
       execution-in (c .before .before .before .before .before .before),
       deadline-in (c .before .before .before .before),
       jitter-in (c .before .before),
-      sym (c .before .outside5 .ensures) ∙ c .if5 .taken
+      sym (c .before .outside5 .ensures) ∙ c .if5 .taken,
     )
 
 returns-6 : tie.Need-returns-6
@@ -79,7 +79,7 @@ returns-6 c =
       execution-in (c .before .before .before .before .before .before),
       deadline-in (c .before .before .before .before),
       jitter-in (c .before .before),
-      sym (c .before .outside5 .ensures) ∙ c .if5 .left
+      sym (c .before .outside5 .ensures) ∙ c .if5 .left,
     )
 
 pub row-refusal-spec : {M : Type 1} → statement M

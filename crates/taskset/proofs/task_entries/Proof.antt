@@ -1,6 +1,5 @@
 -- `taskset::task_entries` meets its contract: every entry before i passes. Assumes nothing.
-use mathlib.Core.Path.{_≡_, sym, _∙_}
-use mathlib.Core.Bool.{true, false}
+use mathlib.Core.Path.{sym, _∙_}
 use Prim.Native.Nat.{_≤_, _-_}
 use native.Mathlib.Omega.{arith}
 use borrow.Author.Needs.{needs}
@@ -43,10 +42,11 @@ loop-less : tie.Need-loop-less Inv-loop μ-loop
 loop-less c = search needs
 
 loop-again : tie.Need-loop-again Inv-loop μ-loop
-loop-again c =
-    (omega arith,
-    all-more (c .before .before .before .before .loop .i) _ (c .before .before .before .before .loop .inv .1)
-    (sym (c .before .task-fits .ensures) ∙ not-false _ (c .if1 .left)))
+loop-again c = (
+  omega arith,
+  all-more (c .before .before .before .before .loop .i) _ (c .before .before .before .before .loop .inv .1)
+      (sym (c .before .task-fits .ensures) ∙ not-false _ (c .if1 .left)),
+)
 
 returns-2 : tie.Need-returns-2 Inv-loop μ-loop
 returns-2 c = sym (all-whole maxTasks (c .before .loop .i) _ (omega arith) (omega arith) (c .before .loop .inv .1))

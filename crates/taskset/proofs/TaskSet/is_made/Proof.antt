@@ -17,9 +17,10 @@ rule-entries-requires : tie.Need-rule-entries-requires
 rule-entries-requires c κs = search needs
 
 sized : (c : tie.Start) → Sized (c .args .self)
-sized c =
-    (sym (length-map (c .args .self .tasks) _) ∙ c .good .0 .1 .1 .0 .1 .0 .1,
-    sym (length-map (c .args .self .rules) _) ∙ c .good .0 .1 .1 .1 .1 .0 .1 .0 .1)
+sized c = (
+  sym (length-map (c .args .self .tasks) _) ∙ c .good .0 .1 .1 .0 .1 .0 .1,
+  sym (length-map (c .args .self .rules) _) ∙ c .good .0 .1 .1 .1 .1 .0 .1 .0 .1,
+)
 
 equation : (c : tie.After-rule-entries) → let s = c .before .before .before .before .args .self in leb (s .ntasks) maxTasks && leb (s .nrules) maxRules && c .before .task-entries .result && c .rule-entries .result ≡ isMade s
 unfolding isMade

@@ -74,6 +74,10 @@ module _ (d : ℕ → ℕ) where
   pub response-is : (jitter limit : ℕ) (a : Response) → Says d jitter limit a → a ≡ responseOf d jitter limit
   response-is jitter limit a s = response-unique jitter limit a (responseOf d jitter limit) s (response-says jitter limit)
 
+  pub response-both : (jitter limit : ℕ) (a : Response) → a ≡ responseOf d jitter limit
+      → (a ≡ responseOf d jitter limit) × Says d jitter limit a
+  response-both jitter limit a e = (e, subst (Says d jitter limit) (sym e) (response-says jitter limit))
+
   -- ---- the climb
 
   -- where d never falls, a bound that is no solution may be moved up to its demand
@@ -82,11 +86,13 @@ module _ (d : ℕ → ℕ) where
 
 -- ---- less demand, no longer a response
 
-pub less-demand : (c d : ℕ → ℕ) → ((w : ℕ) → c w ≤ d w) → (jitter limit r : ℕ) → responseOf d jitter limit ≡ Within r → (q : ℕ) × (responseOf c jitter limit ≡ Within q) × (q ≤ r)
+pub less-demand : (c d : ℕ → ℕ) → ((w : ℕ) → c w ≤ d w) → (jitter limit r : ℕ) → responseOf d jitter limit ≡ Within r
+    → (q : ℕ) × (responseOf c jitter limit ≡ Within q) × (q ≤ r)
 less-demand c d less jitter limit r e =
     go (responseOf c jitter limit) refl (subst (Says d jitter limit) e (response-says d jitter limit)) (response-says c jitter limit)
   where
-    go : (a : Response) → responseOf c jitter limit ≡ a → Says d jitter limit (Within r) → Says c jitter limit a → (q : ℕ) × (responseOf c jitter limit ≡ Within q) × (q ≤ r)
+    go : (a : Response) → responseOf c jitter limit ≡ a → Says d jitter limit (Within r) → Says c jitter limit a
+        → (q : ℕ) × (responseOf c jitter limit ≡ Within q) × (q ≤ r)
     go (Within q) f s t =
         let h = t .1 .least (s .0) (s .1 .low) (le-trans (less (s .0)) (s .1 .met)) in
         (q, f, omega (arith, s .2, t .2))

@@ -16,7 +16,7 @@ use Rattle.taskset.specs.Adding.{blankTask, rows, isMade}
 use Rattle.taskset.specs.Exact.{rows-row, passes-row}
 use Rattle.response.specs.declared.Window.{Window}
 use Rattle.response.specs.declared.Response.the-variants.{Late}
-use Rattle.response.specs.Equation.{ceil, taskAt, interference, demand, windowOf, respond, responseOf}
+use Rattle.response.specs.Equation.{ceil, taskAt, interference, demand, windowOf, respond, responseOf, responseTime}
 use Rattle.response.specs.Agreement.{Bounds, response-is}
 use Rattle.response.specs.Demand.{ceil-above, ceil-least}
 
@@ -37,7 +37,8 @@ pub rate-whole : (t : Task) → InRanges t → rate t ≤ scale
 rate-whole t r =
     div-le-of-le-mul (t .period) (mul-le-mul-right scale (r .execution .1))
 
-pub rate-sum : (n j : ℕ) (tasks : List Task) (above : ℕ → Bool) → ((k : ℕ) → k < n → InRanges (taskAt tasks k)) → n ≤ maxTasks → j ≤ n → sum j above (λ k. rate (taskAt tasks k)) ≤ maxTasks * scale
+pub rate-sum : (n j : ℕ) (tasks : List Task) (above : ℕ → Bool) → ((k : ℕ) → k < n → InRanges (taskAt tasks k))
+    → n ≤ maxTasks → j ≤ n → sum j above (λ k. rate (taskAt tasks k)) ≤ maxTasks * scale
 rate-sum n j tasks above rows few h =
     le-trans (sum-le j above (λ k. rate (taskAt tasks k)) scale (λ k l t. rate-whole (taskAt tasks k) (rows k (lt-of-lt-of-le l h))))
     (mul-le-mul-right scale (le-trans h few))
@@ -73,7 +74,8 @@ module _ (tasks : List Task) (i : ℕ) (above : ℕ → Bool) (rows : (j : ℕ) 
       omega arith
 
   -- and with less every solution is at least (B + C) / (1 − load)
-  pub start-bounds : loadOf tasks above < scale → Bounds (demand tasks i above) (ceil (base * scale) (scale - loadOf tasks above))
+  pub start-bounds : loadOf tasks above < scale
+      → Bounds (demand tasks i above) (ceil (base * scale) (scale - loadOf tasks above))
   start-bounds under v low met =
       let h = load-le v met in
       let e = mul-sub v scale (loadOf tasks above) in
@@ -95,11 +97,12 @@ module _ (set : TaskSet) (made : isMade set ≡ true) (i : ℕ) (here : i < set 
   periods j h = rows-row set made j h .period .0
 
   -- a jitter beyond the limit
-  pub late-by-jitter : (limit : ℕ) → limit < own .jitter → Late ≡ responseOf d (taskAt (rows set) i .jitter) limit
+  pub late-by-jitter : (limit : ℕ) → limit < own .jitter → Late ≡ responseTime (rows set) i above limit
   late-by-jitter limit h = response-is d (taskAt (rows set) i .jitter) limit Late (λ w low met. omega (arith, ap (λ (t : Task). t .jitter) at-row))
 
   -- a load of the whole processor
-  pub late-by-load : (limit load : ℕ) → load ≡ loadOf (rows set) above → scale ≤ load → Late ≡ responseOf d (taskAt (rows set) i .jitter) limit
+  pub late-by-load : (limit load : ℕ) → load ≡ loadOf (rows set) above → scale ≤ load
+      → Late ≡ responseTime (rows set) i above limit
   late-by-load limit load e h =
       response-is d (taskAt (rows set) i .jitter) limit Late
       (λ w low met. absurd (overloaded (rows set) i above periods (subst (λ (t : Task). 1 ≤ t .blocking + t .execution) (sym at-row) (let r = passes-row set made i here in omega (arith, r .execution))) (subst (λ (x : ℕ). scale ≤ x) e h) w met))
@@ -121,6 +124,7 @@ module _ (set : TaskSet) (made : isMade set ≡ true) (i : ℕ) (here : i < set 
       (rw e (start-bounds (rows set) i above periods (subst (λ (x : ℕ). x < scale) e h)))
 
   -- the response of the window that was found
-  pub found-response : (limit : ℕ) (a : Window) → a ≡ windowOf d (limit - own .jitter) → respond (own .jitter) a ≡ responseOf d (taskAt (rows set) i .jitter) limit
+  pub found-response : (limit : ℕ) (a : Window) → a ≡ windowOf d (limit - own .jitter)
+      → respond (own .jitter) a ≡ responseTime (rows set) i above limit
   unfolding responseOf
   found-response limit a e = rw (at-row, e)

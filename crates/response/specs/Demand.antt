@@ -15,7 +15,7 @@ use Rattle.taskset.specs.declared.Task.{Task}
 use Rattle.taskset.specs.Rows.{maxTasks, maxPeriod, InRanges}
 use Rattle.taskset.specs.Adding.{blankTask, rows}
 use Rattle.response.specs.declared.Response.the-variants.{Within}
-use Rattle.response.specs.Equation.{ceil, taskAt, interference, demand, responseOf}
+use Rattle.response.specs.Equation.{ceil, taskAt, interference, demand, responseTime}
 use Rattle.response.specs.Agreement.{less-demand}
 
 -- ---- rounding up
@@ -57,7 +57,8 @@ module _ (tasks : List Task) (i : ℕ) where
       (sum-mono (length tasks) above above (λ j. interference (taskAt tasks j) v) (λ j. interference (taskAt tasks j) w)
       (λ j l t. t) (λ j l t. interference-mono (taskAt tasks j) v w h))
 
-  pub demand-fewer : (fewer above : ℕ → Bool) → Subset (length tasks) fewer above → (w : ℕ) → demand tasks i fewer w ≤ demand tasks i above w
+  pub demand-fewer : (fewer above : ℕ → Bool) → Subset (length tasks) fewer above → (w : ℕ)
+      → demand tasks i fewer w ≤ demand tasks i above w
   unfolding demand
   demand-fewer fewer above sub w =
       add-le-add (le-refl (taskAt tasks i .blocking + taskAt tasks i .execution))
@@ -65,24 +66,31 @@ module _ (tasks : List Task) (i : ℕ) where
       sub (λ j l t. le-refl (interference (taskAt tasks j) w)))
 
   -- fewer tasks above never lengthen a response
-  pub fewer-above : (fewer above : ℕ → Bool) → Subset (length tasks) fewer above → (jitter limit r : ℕ) → responseOf (demand tasks i above) jitter limit ≡ Within r → (q : ℕ) × (responseOf (demand tasks i fewer) jitter limit ≡ Within q) × (q ≤ r)
-  fewer-above fewer above sub = less-demand (demand tasks i fewer) (demand tasks i above) (demand-fewer fewer above sub)
+  pub fewer-above : (fewer above : ℕ → Bool) → Subset (length tasks) fewer above
+      → (limit r : ℕ) → responseTime tasks i above limit ≡ Within r
+      → (q : ℕ) × (responseTime tasks i fewer limit ≡ Within q) × (q ≤ r)
+  fewer-above fewer above sub =
+      less-demand (demand tasks i fewer) (demand tasks i above) (demand-fewer fewer above sub) (taskAt tasks i .jitter)
 
 -- ---- the first n tasks of an array
 
 -- a sum over them is a sum over the array's entries
-pub sum-first : (n : ℕ) (tasks : List Task) (above : ℕ → Bool) (f : Task → ℕ) → n ≤ length tasks → sum n above (λ j. f (taskAt tasks j)) ≡ sum (length (take n tasks)) above (λ j. f (taskAt (take n tasks) j))
+pub sum-first : (n : ℕ) (tasks : List Task) (above : ℕ → Bool) (f : Task → ℕ) → n ≤ length tasks
+    → sum n above (λ j. f (taskAt tasks j)) ≡ sum (length (take n tasks)) above (λ j. f (taskAt (take n tasks) j))
 sum-first n tasks above f h =
     rw (length-take-le n tasks h)
     (sum-cong n above (λ j. f (taskAt tasks j)) (λ j. f (taskAt (take n tasks) j)) (λ j l. ap f (sym (getD-take n tasks j blankTask l))))
 
-pub demand-first : (n : ℕ) (tasks : List Task) (i : ℕ) (above : ℕ → Bool) (w : ℕ) → n ≤ length tasks → i < n → taskAt tasks i .blocking + taskAt tasks i .execution + sum n above (λ j. interference (taskAt tasks j) w) ≡ demand (take n tasks) i above w
+pub demand-first : (n : ℕ) (tasks : List Task) (i : ℕ) (above : ℕ → Bool) (w : ℕ) → n ≤ length tasks → i < n
+    → taskAt tasks i .blocking + taskAt tasks i .execution + sum n above (λ j. interference (taskAt tasks j) w) ≡ demand (take n tasks) i above w
 unfolding demand
 demand-first n tasks i above w h l =
     rw (getD-take n tasks i blankTask l, sum-first n tasks above (λ t. interference t w) h)
 
 -- the interference of 64 tasks is far from what a word holds
-pub interference-sum : (n j : ℕ) (tasks : List Task) (above : ℕ → Bool) (w : ℕ) → ((k : ℕ) → k < n → InRanges (taskAt tasks k)) → n ≤ maxTasks → w ≤ maxPeriod → j ≤ n → sum j above (λ k. interference (taskAt tasks k) w) ≤ maxTasks * (3 * maxPeriod)
+pub interference-sum : (n j : ℕ) (tasks : List Task) (above : ℕ → Bool) (w : ℕ)
+    → ((k : ℕ) → k < n → InRanges (taskAt tasks k)) → n ≤ maxTasks → w ≤ maxPeriod → j ≤ n
+    → sum j above (λ k. interference (taskAt tasks k) w) ≤ maxTasks * (3 * maxPeriod)
 interference-sum n j tasks above w rows few short h =
     let each : w + 2 * maxPeriod ≤ 3 * maxPeriod = omega arith in
     le-trans

@@ -1,5 +1,5 @@
 -- Document 01, "Response": the response-time equation of Joseph and Pandya with release jitter and blocking.
--- First what the words say, as relations; then the same as functions that contracts cite. `Laws` proves that they agree.
+-- First what the words say, as relations; then the same as functions that contracts cite. `Agreement` proves that they agree.
 -- Assumes nothing.
 use mathlib.Core.Path.{_≡_}
 use mathlib.Core.Bool.{Bool, false}
@@ -53,6 +53,10 @@ abbrev pub Says : (ℕ → ℕ) → ℕ → ℕ → Response → Type 0
 Says d jitter limit (Within r) = (w : ℕ) × IsWindow d w × (r ≡ jitter + w) × (r ≤ limit)
 Says d jitter limit Late = (w : ℕ) → 1 ≤ w → d w ≤ w → limit < jitter + w
 
+-- the answer for task i, with the tasks of `above` above it
+abbrev pub SaysResponse : List Task → ℕ → (ℕ → Bool) → ℕ → Response → Type 0
+SaysResponse tasks i above limit = Says (demand tasks i above) (taskAt tasks i .jitter) limit
+
 -- ---- the same as functions
 
 -- the first window among the fuel numbers from w on
@@ -70,3 +74,6 @@ respond jitter Beyond = Late
 
 unfoldable pub responseOf : (ℕ → ℕ) → ℕ → ℕ → Response
 responseOf d jitter limit = respond jitter (windowOf d (limit - jitter))
+
+abbrev pub responseTime : List Task → ℕ → (ℕ → Bool) → ℕ → Response
+responseTime tasks i above limit = responseOf (demand tasks i above) (taskAt tasks i .jitter) limit

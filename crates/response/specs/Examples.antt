@@ -7,7 +7,7 @@ use Rattle.sets.specs.Sum.{sum}
 use Rattle.taskset.specs.declared.Task.{Task}
 use Rattle.response.specs.declared.Response.{Response}
 use Rattle.response.specs.declared.Response.the-variants.{Within}
-use Rattle.response.specs.Equation.{taskAt, interference, demand, windowFrom, windowOf, responseOf}
+use Rattle.response.specs.Equation.{taskAt, interference, demand, windowFrom, windowOf, responseOf, responseTime}
 
 -- a row as its line has it: C, T, D, J, B
 abbrev pub row : ℕ → ℕ → ℕ → ℕ → ℕ → Task
@@ -19,7 +19,7 @@ sheetA j = row 1 4 4 j 0 ∷ row 2 6 6 0 0 ∷ row 3 12 12 0 0 ∷ []
 
 -- the response of task i up to its deadline, with the tasks before it above it
 abbrev pub inOrder : List Task → ℕ → Response
-inOrder tasks i = responseOf (demand tasks i (λ j. ltb j i)) (taskAt tasks i .jitter) (taskAt tasks i .deadline)
+inOrder tasks i = responseTime tasks i (λ j. ltb j i) (taskAt tasks i .deadline)
 
 pub k1 : (inOrder (sheetA 0) 0 ≡ Within 1) × (inOrder (sheetA 0) 1 ≡ Within 3) × (inOrder (sheetA 0) 2 ≡ Within 10)
 unfolding responseOf windowOf windowFrom demand interference sum

@@ -6,7 +6,7 @@ ghost use Prim.Native.Nat.{_+_, _*_, _≤_, _<_};
 ghost use Rattle.sets.specs.Choice.{pick};
 ghost use Rattle.taskset.specs.Rows.{maxPeriod, InRanges};
 ghost use Rattle.taskset.specs.Adding.{rows, isMade};
-ghost use Rattle.response.specs.Equation.{ceil, taskAt, marked, interference, demand, windowOf, responseOf};
+ghost use Rattle.response.specs.Equation.{ceil, marked, interference, demand, windowOf, responseTime, SaysResponse};
 ghost use Rattle.response.specs.Climb.{rate, loadOf};
 ghost use Rattle.response.specs.Agreement.{Bounds};
 use taskset::MAX_TASKS;
@@ -129,7 +129,8 @@ pub fn response_time(
     requires { ⌜ isMade set ≡ true ⌝ }
     requires { ⌜ task .0 < set .ntasks ⌝ }
     requires { ⌜ limit ≤ maxPeriod ⌝ }
-    ensures { λ r. ⌜ r ≡ responseOf (demand (rows set) (task .0) (marked above)) (taskAt (rows set) (task .0) .jitter) limit ⌝ }
+    ensures { λ r. ⌜ r ≡ responseTime (rows set) (task .0) (marked above) limit ⌝ }
+    ensures says { λ r. ⌜ SaysResponse (rows set) (task .0) (marked above) limit r ⌝ }
 {
     let tasks = set.tasks;
     let i = task.0;

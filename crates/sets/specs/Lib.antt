@@ -2,3 +2,4 @@ pub mod Choice
 pub mod Bounded
 pub mod Sum
 pub mod Rank
+pub mod Pad

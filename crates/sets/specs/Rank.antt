@@ -27,7 +27,8 @@ pub getD-rank : (xs : List ℕ) (x : ℕ) → Member xs x → getD xs (rank xs x
 getD-rank [] x m = absurd (not-suc-le-zero m)
 getD-rank (y ∷ ys) x m = go (eqb y x) refl (getD-rank ys x) m
   where
-    go : (b : Bool) → eqb y x ≡ b → (Member ys x → getD ys (rank ys x) 0 ≡ x) → pick b 0 (suc (rank ys x)) < suc (length ys) → getD (y ∷ ys) (pick b 0 (suc (rank ys x))) 0 ≡ x
+    go : (b : Bool) → eqb y x ≡ b → (Member ys x → getD ys (rank ys x) 0 ≡ x) → pick b 0 (suc (rank ys x)) < suc (length ys)
+        → getD (y ∷ ys) (pick b 0 (suc (rank ys x))) 0 ≡ x
     go true e f h = eqb→eq y x (true→T (eqb y x) e)
     go false e f h = f (le-of-suc-le-suc h)
 

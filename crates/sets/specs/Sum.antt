@@ -28,10 +28,12 @@ sum-more i A f = rw add-one
 pub sum-start : (base : ℕ) (above : ℕ → Bool) (f : ℕ → ℕ) → base ≡ base + sum 0 above f
 sum-start base above f = omega (arith, sum-none above f)
 
-pub sum-turn : (total base j : ℕ) (above : ℕ → Bool) (f : ℕ → ℕ) (x : ℕ) → total ≡ base + sum j above f → x ≡ pick (above j) (f j) 0 → total + x ≡ base + sum (j + 1) above f
+pub sum-turn : (total base j : ℕ) (above : ℕ → Bool) (f : ℕ → ℕ) (x : ℕ) → total ≡ base + sum j above f
+    → x ≡ pick (above j) (f j) 0 → total + x ≡ base + sum (j + 1) above f
 sum-turn total base j above f x e k = omega (arith, sum-more j above f)
 
-pub sum-end : (total base j n : ℕ) (above : ℕ → Bool) (f : ℕ → ℕ) → total ≡ base + sum j above f → j ≤ n → n ≤ j → total ≡ base + sum n above f
+pub sum-end : (total base j n : ℕ) (above : ℕ → Bool) (f : ℕ → ℕ) → total ≡ base + sum j above f → j ≤ n → n ≤ j
+    → total ≡ base + sum n above f
 sum-end total base j n above f e under over =
     let h : j ≡ n = omega arith in
     subst (λ (m : ℕ). total ≡ base + sum m above f) h e
@@ -43,7 +45,8 @@ term-mono false true x y f g = omega arith
 term-mono false false x y f g = le-refl 0
 
 -- fewer members and smaller terms give a smaller sum
-pub sum-mono : (n : ℕ) (B A : ℕ → Bool) (f g : ℕ → ℕ) → Subset n B A → ((j : ℕ) → j < n → T (B j) → f j ≤ g j) → sum n B f ≤ sum n A g
+pub sum-mono : (n : ℕ) (B A : ℕ → Bool) (f g : ℕ → ℕ) → Subset n B A → ((j : ℕ) → j < n → T (B j) → f j ≤ g j)
+    → sum n B f ≤ sum n A g
 unfolding sum
 sum-mono zero B A f g w h = le-refl 0
 sum-mono (suc n) B A f g w h =
@@ -69,7 +72,8 @@ term-scaled true x y v k h = h tt
 term-scaled false x y v k h = le-of-eq (mul-zero v ∙ sym (mul-zero k))
 
 -- where v · f ≤ k · g at each member, the sums stand so too
-pub sum-scaled : (n : ℕ) (A : ℕ → Bool) (f g : ℕ → ℕ) (v k : ℕ) → ((j : ℕ) → j < n → T (A j) → v * f j ≤ k * g j) → v * sum n A f ≤ k * sum n A g
+pub sum-scaled : (n : ℕ) (A : ℕ → Bool) (f g : ℕ → ℕ) (v k : ℕ) → ((j : ℕ) → j < n → T (A j) → v * f j ≤ k * g j)
+    → v * sum n A f ≤ k * sum n A g
 unfolding sum
 sum-scaled zero A f g v k h = le-of-eq (mul-zero v ∙ sym (mul-zero k))
 sum-scaled (suc n) A f g v k h =

@@ -1,180 +1,26 @@
--- Refusal 14 is exact: the check passes just the sets that calls make. On the way: the set that calls make holds the
--- reference model's lists, entry for entry. Assumes nothing.
-use mathlib.Core.Path.{_≡_, refl, sym, ap, ap₂, _∙_, subst}
+-- Refusal 14 is exact: the check passes just the sets that calls make. Assumes nothing.
+use mathlib.Core.Path.{_≡_, refl, sym, ap, _∙_}
 use mathlib.Core.Bool.{Bool, true, false, _&&_}
 use mathlib.Core.List.{List, [], _∷_, _++_, map, append-nil}
 use mathlib.Core.Logic.{_↔_}
-use Prim.Native.Nat.{ℕ, zero, suc, _+_, _-_, _≤_, _<_, suc-le-suc}
+use Prim.Native.Nat.{ℕ, suc, _+_, _-_, _≤_, _<_, suc-le-suc}
 use native.Mathlib.Nat.{zero-lt-suc}
-use native.Mathlib.Numerals.{add-one}
 use native.Mathlib.Omega.{arith}
-use lib.Dec.{T, leb, ltb, eqb, eqb→eq, leb→le, eqb·suc-zero}
-use lib.ListN.{length, getD, set, take, replicate, length-append, length-take, length-replicate, getD-replicate, List·getD-append}
-use lib.Seq.{length-take-le, set-append-seam, getD-append-seam, getD-append-add, getD-take, append-snoc, ext-getD}
-use borrow.Author.Tests.{lt-ltb, le-leb, ltb-true, ltb-false}
-use Rattle.sets.specs.Choice.{pick, T→true, true→T, and-left, and-right}
-use Rattle.sets.specs.Bounded.{all, all-of, all-at, below-suc}
+use lib.Dec.{T, leb, ltb, eqb, eqb→eq, leb→le}
+use lib.ListN.{length, getD, take, replicate, length-append, length-take, length-replicate}
+use lib.Seq.{length-take-le, getD-take, append-snoc, ext-getD}
+use borrow.Author.Tests.{lt-ltb, ltb-true, ltb-false}
+use Rattle.sets.specs.Choice.{true→T, and-left, and-right}
+use Rattle.sets.specs.Bounded.{all, all-at}
+use Rattle.sets.specs.Pad.{pad, pad-used, pad-unused}
 use Rattle.taskset.specs.declared.Task.{Task}
 use Rattle.taskset.specs.declared.Rule.{Rule}
 use Rattle.taskset.specs.declared.TaskSet.{TaskSet}
-use Rattle.taskset.specs.Rows.{maxTasks, maxRules, InRanges, Between, firstOf, rowRefusals, indexRefusals, taskRefusal, ruleRefusal}
-use Rattle.taskset.specs.Adding.{blankTask, blankRule, freshSet, rows, taskFits, ruleFits, entry, isMade, withTask, withRule, adding}
-use Rattle.taskset.specs.Calls.{Call, task, rule, after, run, Made, Lists, noLists, lists, append, hear, heard}
-use Rattle.taskset.specs.Laws.{row-accepted, row-accepts, rule-accepted, rule-accepts, task-taken, task-taken-only, rule-taken, rule-taken-only}
-
--- ---- a list in an array of n entries, the rest d
-
-module _ {A : Type 0} where
-  abbrev pub pad : ℕ → A → List A → List A
-  pad n d xs = xs ++ replicate (n - length xs) d
-
-  replicate-less : (n k : ℕ) (d : A) → k < n → replicate (n - k) d ≡ d ∷ replicate (n - suc k) d
-  replicate-less n k d h =
-      let e : n - k ≡ suc (n - suc k) = omega arith in
-      ap (λ (m : ℕ). replicate m d) e
-
-  -- one entry more
-  pub set-pad : (n : ℕ) (d : A) (xs : List A) (x : A) → length xs < n → set (pad n d xs) (length xs) x ≡ pad n d (xs ++ x ∷ [])
-  set-pad n d xs x h =
-      let e : length (xs ++ x ∷ []) ≡ suc (length xs) = length-append xs (x ∷ []) ∙ add-one (length xs) in
-      rw (e, replicate-less n (length xs) d h, set-append-seam xs d (replicate (n - suc (length xs)) d) x) (sym (append-snoc xs x (replicate (n - suc (length xs)) d)))
-
-  pub pad-used : (n : ℕ) (d : A) (xs : List A) (k : ℕ) → k < length xs → getD (pad n d xs) k d ≡ getD xs k d
-  pad-used n d xs k h = List·getD-append xs (replicate (n - length xs) d) d k h
-
-  pub pad-unused : (n : ℕ) (d : A) (xs : List A) (k : ℕ) → length xs ≤ k → k < n → getD (pad n d xs) k d ≡ d
-  pad-unused n d xs k over under =
-      let e : k ≡ length xs + (k - length xs) = omega arith in
-      ap (λ (m : ℕ). getD (pad n d xs) m d) e
-      ∙ getD-append-add xs (replicate (n - length xs) d) (k - length xs) d
-      ∙ getD-replicate (n - length xs) (k - length xs) d d (omega arith)
-
--- the set that holds these lists
-abbrev pub holding : Lists → TaskSet
-holding l =
-    record {
-      tasks = pad maxTasks blankTask (l .tasks);
-      ntasks = length (l .tasks);
-      rules = pad maxRules blankRule (l .rules);
-      nrules = length (l .rules);
-    }
-
--- ---- lists that adding has taken
-
-pub record Sound (l : Lists) : Type 0 where
-  pub few-tasks : length (l .tasks) ≤ maxTasks
-  pub few-rules : length (l .rules) ≤ maxRules
-  pub rows : (i : ℕ) → i < length (l .tasks) → InRanges (getD (l .tasks) i blankTask)
-  pub indices : (i : ℕ) → i < length (l .rules) → Between (length (l .tasks)) (getD (l .rules) i blankRule)
-
-pub none-sound : Sound noLists
-none-sound =
-    record {
-      few-tasks = omega arith;
-      few-rules = omega arith;
-      rows = λ i h. absurd (omega arith);
-      indices = λ i h. absurd (omega arith);
-    }
-
--- ---- the check passes a set that holds such lists
-
--- every entry of a padded list fits
-entries : {A : Type 0} (fits : Bool → A → Bool) (n : ℕ) (d : A) (xs : List A) → T (fits false d) → ((i : ℕ) → i < length xs → T (fits true (getD xs i d))) → all n (entry fits d (length xs) (pad n d xs)) ≡ true
-entries fits n d xs unused used =
-    T→true (all n (entry fits d (length xs) (pad n d xs)))
-    (all-of n (entry fits d (length xs) (pad n d xs)) (λ k h. go k h (ltb k (length xs)) refl))
-  where
-    go : (k : ℕ) → k < n → (b : Bool) → ltb k (length xs) ≡ b → T (fits b (getD (pad n d xs) k d))
-    go k h true e = let under = ltb-true k (length xs) e in rw (pad-used n d xs k under) (used k under)
-    go k h false e = rw (pad-unused n d xs k (ltb-false k (length xs) e) h) unused
-
-pub sound-made : (l : Lists) → Sound l → isMade (holding l) ≡ true
-unfolding isMade taskFits ruleFits
-sound-made l s =
-    let n = length (l .tasks) in
-    rw (
-      le-leb n maxTasks (s .few-tasks),
-      le-leb (length (l .rules)) maxRules (s .few-rules),
-      entries taskFits maxTasks blankTask (l .tasks) tt (λ i h. rw (row-accepts (getD (l .tasks) i blankTask) (s .rows i h)) tt),
-      entries (ruleFits n) maxRules blankRule (l .rules) tt (λ i h. rw (rule-accepts n (getD (l .rules) i blankRule) (s .indices i h)) tt),
-    )
-
--- ---- a call on a set that holds such lists makes one that holds what the reference model hears
-
-adding-set : (s : TaskSet) (k : ℕ) (new : TaskSet) → isMade s ≡ true → adding s k new .set ≡ pick (eqb k 0) new s
-unfolding adding
-adding-set s k new e = rw e
-
-holding-task : (l : Lists) (t : Task) → length (l .tasks) < maxTasks → withTask (holding l) t ≡ holding (record { tasks = l .tasks ++ t ∷ []; rules = l .rules })
-holding-task l t h =
-    ap₂ (λ (ts : List Task) (n : ℕ). record { tasks = ts; ntasks = n; rules = holding l .rules; nrules = holding l .nrules })
-    (set-pad maxTasks blankTask (l .tasks) t h) (sym (length-append (l .tasks) (t ∷ [])))
-
-holding-rule : (l : Lists) (r : Rule) → length (l .rules) < maxRules → withRule (holding l) r ≡ holding (record { tasks = l .tasks; rules = l .rules ++ r ∷ [] })
-holding-rule l r h =
-    ap₂ (λ (rs : List Rule) (n : ℕ). record { tasks = holding l .tasks; ntasks = holding l .ntasks; rules = rs; nrules = n })
-    (set-pad maxRules blankRule (l .rules) r h) (sym (length-append (l .rules) (r ∷ [])))
-
-after-holding : (l : Lists) → Sound l → (c : Call) → after (holding l) c ≡ holding (hear l c)
-after-holding l s (task t) = adding-set (holding l) (taskRefusal (length (l .tasks)) t) (withTask (holding l) t) (sound-made l s) ∙ go (taskRefusal (length (l .tasks)) t) refl
-  where
-    go : (k : ℕ) → taskRefusal (length (l .tasks)) t ≡ k → pick (eqb k 0) (withTask (holding l) t) (holding l) ≡ holding (record { tasks = append k (l .tasks) t; rules = l .rules })
-    go zero e = holding-task l t (task-taken-only (length (l .tasks)) t e .1)
-    go (suc k) e = rw (eqb·suc-zero k)
-after-holding l s (rule r) = adding-set (holding l) (ruleRefusal (length (l .tasks)) (length (l .rules)) r) (withRule (holding l) r) (sound-made l s) ∙ go (ruleRefusal (length (l .tasks)) (length (l .rules)) r) refl
-  where
-    go : (k : ℕ) → ruleRefusal (length (l .tasks)) (length (l .rules)) r ≡ k → pick (eqb k 0) (withRule (holding l) r) (holding l) ≡ holding (record { tasks = l .tasks; rules = append k (l .rules) r })
-    go zero e = holding-rule l r (rule-taken-only (length (l .tasks)) (length (l .rules)) r e .1)
-    go (suc k) e = rw (eqb·suc-zero k)
-
--- what holds of each entry and of one more holds of each of the longer list
-each-more : {A : Type 0} (P : A → Type 0) (d : A) (xs : List A) (x : A) → ((i : ℕ) → i < length xs → P (getD xs i d)) → P x → (i : ℕ) → i < length (xs ++ x ∷ []) → P (getD (xs ++ x ∷ []) i d)
-each-more P d xs x each one i h =
-    below-suc (λ (k : ℕ). P (getD (xs ++ x ∷ []) k d)) (length xs)
-    (λ k l. rw (List·getD-append xs (x ∷ []) d k l) (each k l))
-    (rw (getD-append-seam xs x [] d) one)
-    i (subst (λ (m : ℕ). i < m) (length-append xs (x ∷ []) ∙ add-one (length xs)) h)
-
-hear-sound : (l : Lists) → Sound l → (c : Call) → Sound (hear l c)
-hear-sound l s (task t) = go (taskRefusal (length (l .tasks)) t) refl
-  where
-    go : (k : ℕ) → taskRefusal (length (l .tasks)) t ≡ k → Sound (record { tasks = append k (l .tasks) t; rules = l .rules })
-    go zero e =
-        let ok = task-taken-only (length (l .tasks)) t e in
-        let longer = length-append (l .tasks) (t ∷ []) in
-        record {
-          few-tasks = omega (arith, ok .1);
-          few-rules = s .few-rules;
-          rows = each-more InRanges blankTask (l .tasks) t (s .rows) (row-accepted t (ok .0));
-          indices = λ i h. let b = s .indices i h in record { apart = b .apart; higher = omega arith; lower = omega arith };
-        }
-    go (suc k) e = rw (eqb·suc-zero k) s
-hear-sound l s (rule r) = go (ruleRefusal (length (l .tasks)) (length (l .rules)) r) refl
-  where
-    go : (k : ℕ) → ruleRefusal (length (l .tasks)) (length (l .rules)) r ≡ k → Sound (record { tasks = l .tasks; rules = append k (l .rules) r })
-    go zero e =
-        let ok = rule-taken-only (length (l .tasks)) (length (l .rules)) r e in
-        let longer = length-append (l .rules) (r ∷ []) in
-        record {
-          few-tasks = s .few-tasks;
-          few-rules = omega (arith, ok .1);
-          rows = s .rows;
-          indices = each-more (Between (length (l .tasks))) blankRule (l .rules) r (s .indices) (rule-accepted (length (l .tasks)) r (ok .0));
-        }
-    go (suc k) e = rw (eqb·suc-zero k) s
-
--- the calls make the set that holds what the reference model hears
-pub run-holding : (l : Lists) → Sound l → (calls : List Call) → run (holding l) calls ≡ holding (heard l calls)
-unfolding run heard
-run-holding l s [] = refl
-run-holding l s (c ∷ cs) = rw (after-holding l s c) (run-holding (hear l c) (hear-sound l s c) cs)
-
-pub heard-sound : (l : Lists) → Sound l → (calls : List Call) → Sound (heard l calls)
-unfolding heard
-heard-sound l s [] = s
-heard-sound l s (c ∷ cs) = heard-sound (hear l c) (hear-sound l s c) cs
-
--- ---- refusal 14 is exact
+use Rattle.taskset.specs.Rows.{maxTasks, maxRules, InRanges, Between, firstOf, rowRefusals, indexRefusals}
+use Rattle.taskset.specs.Adding.{blankTask, blankRule, freshSet, rows, taskFits, ruleFits, entry, isMade}
+use Rattle.taskset.specs.Calls.{Call, task, rule, after, run, Made, Lists, noLists, lists, append, heard}
+use Rattle.taskset.specs.Laws.{row-accepted, row-accepts, rule-accepted, rule-accepts, task-taken, rule-taken}
+use Rattle.taskset.specs.Holding.{holding, Sound, none-sound, sound-made, run-holding, heard-sound}
 
 -- what calls make passes
 pub made-passes : (s : TaskSet) → Made s → isMade s ≡ true
@@ -236,7 +82,8 @@ module _ {A : Type 0} (fits : Bool → A → Bool) (limit n : ℕ) (d : A) (xs :
           length-append (take n xs) (replicate (limit - length (take n xs)) d)
           ∙ omega (arith, length-used, length-replicate (limit - length (take n xs)) d)
 
-      go : (i : ℕ) → i < limit → (b : Bool) → ltb i n ≡ b → T (fits b (getD xs i d)) → getD (pad limit d (take n xs)) i d ≡ getD xs i d
+      go : (i : ℕ) → i < limit → (b : Bool) → ltb i n ≡ b → T (fits b (getD xs i d))
+          → getD (pad limit d (take n xs)) i d ≡ getD xs i d
       go i h true e t =
           let under = ltb-true i n e in
           pad-used limit d (take n xs) i (omega (arith, length-used)) ∙ getD-take n xs i d under
@@ -310,7 +157,9 @@ module _ (s : TaskSet) (size : Sized s) (e : isMade s ≡ true) where
       }
 
 -- lists that adding takes are heard whole
-hear-tasks : (ts : List Task) (l : Lists) (cs : List Call) → length (l .tasks) + length ts ≤ maxTasks → ((i : ℕ) → i < length ts → InRanges (getD ts i blankTask)) → heard l (map task ts ++ cs) ≡ heard (record { tasks = l .tasks ++ ts; rules = l .rules }) cs
+hear-tasks : (ts : List Task) (l : Lists) (cs : List Call) → length (l .tasks) + length ts ≤ maxTasks
+    → ((i : ℕ) → i < length ts → InRanges (getD ts i blankTask))
+    → heard l (map task ts ++ cs) ≡ heard (record { tasks = l .tasks ++ ts; rules = l .rules }) cs
 unfolding heard
 hear-tasks [] l cs h each = rw (append-nil (l .tasks))
 hear-tasks (t ∷ ts) l cs h each =
@@ -319,7 +168,9 @@ hear-tasks (t ∷ ts) l cs h each =
     ∙ hear-tasks ts (record { tasks = l .tasks ++ t ∷ []; rules = l .rules }) cs (omega (arith, length-append (l .tasks) (t ∷ []))) (λ i k. each (suc i) (suc-le-suc k))
     ∙ rw (append-snoc (l .tasks) t ts)
 
-hear-rules : (rs : List Rule) (l : Lists) → length (l .rules) + length rs ≤ maxRules → ((i : ℕ) → i < length rs → Between (length (l .tasks)) (getD rs i blankRule)) → heard l (map rule rs) ≡ record { tasks = l .tasks; rules = l .rules ++ rs }
+hear-rules : (rs : List Rule) (l : Lists) → length (l .rules) + length rs ≤ maxRules
+    → ((i : ℕ) → i < length rs → Between (length (l .tasks)) (getD rs i blankRule))
+    → heard l (map rule rs) ≡ record { tasks = l .tasks; rules = l .rules ++ rs }
 unfolding heard
 hear-rules [] l h each = rw (append-nil (l .rules))
 hear-rules (r ∷ rs) l h each =

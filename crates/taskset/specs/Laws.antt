@@ -1,6 +1,7 @@
 -- Laws of the refusals and of adding, for proofs to cite. Assumes nothing.
 use mathlib.Core.Path.{_≡_, refl, sym, _∙_}
 use mathlib.Core.Bool.{Bool, true, false, _||_}
+use mathlib.Core.Logic.{_↔_}
 use mathlib.Core.List.{List, [], _∷_, _++_}
 use Prim.Native.Nat.{ℕ, zero, suc, _-_, _≤_, _<_}
 use native.Mathlib.Nat.{suc-ne-zero}
@@ -45,7 +46,8 @@ pub index-numbered : (n : ℕ) (r : Rule) → Numbered (indexRefusals n r)
 unfolding indexRefusals
 index-numbered n r = (tt, (tt, tt))
 
-pub first-append : (xs ys : List (ℕ × Bool)) → Numbered xs → firstOf (xs ++ ys) ≡ pick (eqb (firstOf xs) 0) (firstOf ys) (firstOf xs)
+pub first-append : (xs ys : List (ℕ × Bool)) → Numbered xs
+    → firstOf (xs ++ ys) ≡ pick (eqb (firstOf xs) 0) (firstOf ys) (firstOf xs)
 first-append [] ys h = refl
 first-append (x ∷ xs) ys h = go (x .1) (first-append xs ys (h .1))
   where
@@ -113,11 +115,13 @@ pub adding-14 : (s : TaskSet) (k : ℕ) (new : TaskSet) → isMade s ≡ false �
 unfolding adding
 adding-14 s k new e = rw e
 
-pub adding-refused : (s : TaskSet) (k : ℕ) (new : TaskSet) → isMade s ≡ true → (n : ℕ) → n ≡ k → (n ≡ 0 → ⊥) → record { refusal = n; set = s } ≡ adding s k new
+pub adding-refused : (s : TaskSet) (k : ℕ) (new : TaskSet) → isMade s ≡ true → (n : ℕ) → n ≡ k → (n ≡ 0 → ⊥)
+    → record { refusal = n; set = s } ≡ adding s k new
 unfolding adding
 adding-refused s k new e n f nonzero = rw (e, ← f, ne-eqb n 0 nonzero)
 
-pub adding-taken : (s : TaskSet) (k : ℕ) (new : TaskSet) → isMade s ≡ true → k ≡ 0 → record { refusal = 0; set = new } ≡ adding s k new
+pub adding-taken : (s : TaskSet) (k : ℕ) (new : TaskSet) → isMade s ≡ true → k ≡ 0
+    → record { refusal = 0; set = new } ≡ adding s k new
 unfolding adding
 adding-taken s k new e f = rw (e, f)
 
@@ -140,7 +144,8 @@ module _ (xs : List (ℕ × Bool)) (numbered : Numbered xs) (k size limit : ℕ)
   taken-only : 0 < k → firstOf both ≡ 0 → (firstOf xs ≡ 0) × (size < limit)
   taken-only positive e = go (firstOf xs) (leb limit size) refl refl (sym (first-append xs ((k, leb limit size) ∷ []) numbered) ∙ e)
     where
-      go : (n : ℕ) (b : Bool) → firstOf xs ≡ n → leb limit size ≡ b → pick (eqb n 0) (pick b k 0) n ≡ 0 → (firstOf xs ≡ 0) × (size < limit)
+      go : (n : ℕ) (b : Bool) → firstOf xs ≡ n → leb limit size ≡ b → pick (eqb n 0) (pick b k 0) n ≡ 0
+          → (firstOf xs ≡ 0) × (size < limit)
       go zero true f l z = absurd (omega arith)
       go zero false f l z = (f, leb-false limit size l)
       go (suc n) b f l z = absurd (omega (arith, rw (ne-eqb (suc n) 0 (suc-ne-zero n)) at z))
@@ -178,3 +183,13 @@ module _ (c m : ℕ) (r : Rule) where
   pub rule-taken-only : ruleRefusal c m r ≡ 0 → (firstOf (indexRefusals c r) ≡ 0) × (m < maxRules)
   unfolding ruleRefusal
   rule-taken-only = taken-only (indexRefusals c r) (index-numbered c r) 12 m maxRules (omega arith)
+
+-- ---- taken exactly when in its ranges and with room
+
+pub task-taken-exactly : (n : ℕ) (t : Task) → (taskRefusal n t ≡ 0) ↔ (InRanges t × (n < maxTasks))
+task-taken-exactly n t =
+    (λ e. let ok = task-taken-only n t e in (row-accepted t (ok .0), ok .1), λ h. sym (task-taken n t (row-accepts t (h .0)) (h .1)))
+
+pub rule-taken-exactly : (n m : ℕ) (r : Rule) → (ruleRefusal n m r ≡ 0) ↔ (Between n r × (m < maxRules))
+rule-taken-exactly n m r =
+    (λ e. let ok = rule-taken-only n m r e in (rule-accepted n r (ok .0), ok .1), λ h. sym (rule-taken n m r (rule-accepts n r (h .0)) (h .1)))

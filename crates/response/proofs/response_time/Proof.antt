@@ -7,7 +7,7 @@ use Rattle.taskset.specs.Rows.{maxTasks, InRanges}
 use Rattle.taskset.specs.Exact.{passes-few, passes-row}
 use Rattle.response.specs.Equation.{taskAt, marked, respond}
 use Rattle.response.specs.Climb.{late-by-jitter, late-by-load, start-positive, start-below, found-response}
-use Rattle.response.specs.Agreement.{window-room}
+use Rattle.response.specs.Agreement.{response-both, window-room}
 use Rattle.response.proofs.response_time.Statement.{statement}
 use Rattle.response.proofs.response_time.Tie as tie
 
@@ -33,12 +33,14 @@ load-requires c κs = search needs
 returns : tie.Need-returns
 returns c =
     let s = c .before .before .before .before .before in
-    late-by-jitter (s .args .set) (s .pre .0) (s .args .task .0) (s .pre .1 .0) _ (s .args .limit) (c .if1 .taken)
+    response-both _ _ _ _
+    (late-by-jitter (s .args .set) (s .pre .0) (s .args .task .0) (s .pre .1 .0) _ (s .args .limit) (c .if1 .taken))
 
 returns-2 : tie.Need-returns-2
 returns-2 c =
     let s = c .before .before .before .before .before .before in
-    late-by-load (s .args .set) (s .pre .0) (s .args .task .0) (s .pre .1 .0) _ (s .args .limit) _ (c .before .before .before .load .ensures) (c .if2 .taken)
+    response-both _ _ _ _
+    (late-by-load (s .args .set) (s .pre .0) (s .args .task .0) (s .pre .1 .0) _ (s .args .limit) _ (c .before .before .before .load .ensures) (c .if2 .taken))
 
 add-ceil-div : tie.Need-add-ceil-div
 add-ceil-div c = let r = own (c .before .before .before .before .before .before .before) in omega arith
@@ -80,8 +82,9 @@ enum-told c = search needs
 returns-3 : tie.Need-returns-3
 returns-3 c =
     let s = c .before .before .before .before .before .before .before .before .before .before .before .before in
-    ap (respond (taskAt (s .args .set .tasks) (s .args .task .0) .jitter)) (sym (c .enum-told .given .1))
-    ∙ found-response (s .args .set) (s .pre .0) (s .args .task .0) (s .pre .1 .0) _ (s .args .limit) _ (c .before .before .climb .ensures)
+    response-both _ _ _ _
+    (ap (respond (taskAt (s .args .set .tasks) (s .args .task .0) .jitter)) (sym (c .enum-told .given .1))
+    ∙ found-response (s .args .set) (s .pre .0) (s .args .task .0) (s .pre .1 .0) _ (s .args .limit) _ (c .before .before .climb .ensures))
 
 add-t18 : tie.Need-add-t18
 add-t18 c =
@@ -92,8 +95,9 @@ add-t18 c =
 returns-4 : tie.Need-returns-4
 returns-4 c =
     let s = c .before .before .before .before .before .before .before .before .before .before .before .before .before .before in
-    ap (respond (taskAt (s .args .set .tasks) (s .args .task .0) .jitter)) (sym (c .before .before .w .given .1))
-    ∙ found-response (s .args .set) (s .pre .0) (s .args .task .0) (s .pre .1 .0) _ (s .args .limit) _ (c .before .before .before .before .climb .ensures)
+    response-both _ _ _ _
+    (ap (respond (taskAt (s .args .set .tasks) (s .args .task .0) .jitter)) (sym (c .before .before .w .given .1))
+    ∙ found-response (s .args .set) (s .pre .0) (s .args .task .0) (s .pre .1 .0) _ (s .args .limit) _ (c .before .before .before .before .climb .ensures))
 
 pub response-time-spec : {M : Type 1} → statement M
 response-time-spec =

@@ -80,7 +80,7 @@ module _ (d : ℕ → ℕ) where
 
   -- ---- the climb
 
-  -- where d never falls, a bound that is no solution may be moved up to its demand
+  -- where d never falls, a bound may be moved up to its demand
   pub climb : ((v w : ℕ) → v ≤ w → d v ≤ d w) → (w : ℕ) → Bounds d w → Bounds d (d w)
   climb mono w b v low met = le-trans (mono w v (b v low met)) met
 

@@ -3,7 +3,7 @@
 use mathlib.Core.Path.{_≡_, sym, ap, _∙_, subst}
 use mathlib.Core.Bool.{Bool, true}
 use mathlib.Core.List.{List}
-use Prim.Native.Nat.{ℕ, _+_, _-_, _*_, _/_, _≤_, _<_}
+use Prim.Native.Nat.{ℕ, _+_, _-_, _*_, _/_, _^_, _≤_, _<_}
 use native.Mathlib.Nat.{le-trans, lt-of-lt-of-le, div-mul-le-self, le-div-iff-mul-le, mul-le-mul-left, mul-le-mul-right, one-mul, mul-assoc, mul-comm, mul-sub, div-le-of-le-mul}
 use native.Mathlib.Omega.{arith}
 use lib.ListN.{length}
@@ -24,7 +24,7 @@ use Rattle.response.specs.Demand.{ceil-above, ceil-least}
 
 -- the load of a task as a multiple of 2⁻³², rounded down
 abbrev pub scale : ℕ
-scale = 4_294_967_296
+scale = 2 ^ 32
 
 abbrev pub rate : Task → ℕ
 rate t = t .execution * scale / t .period
@@ -51,7 +51,7 @@ rate-le t v h =
     let spans : v ≤ q * t .period = omega (arith, ceil-above (v + t .jitter) (t .period) h) in
     let each : rate t * t .period ≤ t .execution * scale = div-mul-le-self (t .execution * scale) (t .period) in
     let a : v * rate t ≤ q * t .period * rate t = mul-le-mul-right (rate t) spans in
-    let b : q * (t .period * rate t) ≤ q * (t .execution * scale) = mul-le-mul-left q (subst (λ (x : ℕ). x ≤ t .execution * scale) (mul-comm (rate t) (t .period)) each) in
+    let b : q * (t .period * rate t) ≤ q * (t .execution * scale) = mul-le-mul-left q (rw (mul-comm (rate t) (t .period)) at each) in
     let c : q * t .period * rate t ≡ q * (t .period * rate t) = mul-assoc q (t .period) (rate t) in
     let e : q * (t .execution * scale) ≡ scale * (q * t .execution) = sym (mul-assoc q (t .execution) scale) ∙ mul-comm (q * t .execution) scale in
     omega arith
@@ -63,7 +63,10 @@ module _ (tasks : List Task) (i : ℕ) (above : ℕ → Bool) (rows : (j : ℕ) 
   load-le : (v : ℕ) → demand tasks i above v ≤ v → scale * base + v * loadOf tasks above ≤ scale * v
   unfolding demand
   load-le v met =
-      let h = sum-scaled (length tasks) above (λ j. rate (taskAt tasks j)) (λ j. interference (taskAt tasks j) v) v scale (λ j l t. rate-le (taskAt tasks j) v (rows j l)) in
+      let h =
+      sum-scaled (length tasks) above (λ j. rate (taskAt tasks j)) (λ j. interference (taskAt tasks j) v) v scale
+      (λ j l t. rate-le (taskAt tasks j) v (rows j l))
+      in
       omega arith
 
   -- a load of the whole processor or more leaves no solution
@@ -96,16 +99,22 @@ module _ (set : TaskSet) (made : isMade set ≡ true) (i : ℕ) (here : i < set 
   periods : (j : ℕ) → j < length (rows set) → 1 ≤ taskAt (rows set) j .period
   periods j h = rows-row set made j h .period .0
 
+  positive : 1 ≤ own .blocking + own .execution
+  positive = let r = passes-row set made i here in omega (arith, r .execution)
+
   -- a jitter beyond the limit
   pub late-by-jitter : (limit : ℕ) → limit < own .jitter → Late ≡ responseTime (rows set) i above limit
-  late-by-jitter limit h = response-is d (taskAt (rows set) i .jitter) limit Late (λ w low met. omega (arith, ap (λ (t : Task). t .jitter) at-row))
+  late-by-jitter limit h =
+      response-is d (taskAt (rows set) i .jitter) limit Late (λ w low met. omega (arith, ap (λ (t : Task). t .jitter) at-row))
 
   -- a load of the whole processor
   pub late-by-load : (limit load : ℕ) → load ≡ loadOf (rows set) above → scale ≤ load
       → Late ≡ responseTime (rows set) i above limit
   late-by-load limit load e h =
+      let some = subst (λ (t : Task). 1 ≤ t .blocking + t .execution) (sym at-row) positive in
+      let over = subst (λ (x : ℕ). scale ≤ x) e h in
       response-is d (taskAt (rows set) i .jitter) limit Late
-      (λ w low met. absurd (overloaded (rows set) i above periods (subst (λ (t : Task). 1 ≤ t .blocking + t .execution) (sym at-row) (let r = passes-row set made i here in omega (arith, r .execution))) (subst (λ (x : ℕ). scale ≤ x) e h) w met))
+      (λ w low met. absurd (overloaded (rows set) i above periods some over w met))
 
   -- the start of the climb is positive and bounds every solution
   abbrev start : ℕ → ℕ
@@ -113,9 +122,10 @@ module _ (set : TaskSet) (made : isMade set ≡ true) (i : ℕ) (here : i < set 
 
   pub start-positive : (load : ℕ) → load < scale → 1 ≤ start load
   start-positive load h =
-      let r = passes-row set made i here in
       let room : 0 < scale - load = omega arith in
-      let once : 1 * (scale - load) ≤ (own .blocking + own .execution) * scale + (scale - load - 1) = omega (arith, one-mul (scale - load), r .execution) in
+      let once : 1 * (scale - load) ≤ (own .blocking + own .execution) * scale + (scale - load - 1) =
+      omega (arith, one-mul (scale - load), positive)
+      in
       le-div-iff-mul-le room .1 once
 
   pub start-below : (load : ℕ) → load ≡ loadOf (rows set) above → load < scale → Bounds d (start load)

@@ -13,7 +13,7 @@ use Rattle.sets.specs.Bounded.{Subset}
 use Rattle.sets.specs.Sum.{sum, sum-mono, sum-cong, sum-le}
 use Rattle.taskset.specs.declared.Task.{Task}
 use Rattle.taskset.specs.Rows.{maxTasks, maxPeriod, InRanges}
-use Rattle.taskset.specs.Adding.{blankTask, rows}
+use Rattle.taskset.specs.Adding.{blankTask}
 use Rattle.response.specs.declared.Response.the-variants.{Within}
 use Rattle.response.specs.Equation.{ceil, taskAt, interference, demand, responseTime}
 use Rattle.response.specs.Agreement.{less-demand}

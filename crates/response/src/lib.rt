@@ -2,7 +2,7 @@
 
 ghost use mathlib.Core.Path.{_≡_};
 ghost use mathlib.Core.Bool.{true};
-ghost use Prim.Native.Nat.{_+_, _*_, _≤_, _<_};
+ghost use Prim.Native.Nat.{_+_, _^_, _≤_, _<_};
 ghost use Rattle.sets.specs.Choice.{pick};
 ghost use Rattle.taskset.specs.Rows.{maxPeriod, InRanges};
 ghost use Rattle.taskset.specs.Adding.{rows, isMade};
@@ -31,7 +31,7 @@ pub enum Response {
 
 // ⌈x / t⌉
 fn ceil_div(x: u64, t: u64) -> u64
-    requires { ⌜ (1 ≤ t) × (x + t ≤ 18446744073709551615) ⌝ }
+    requires { ⌜ (1 ≤ t) × (x + t < 2 ^ 64) ⌝ }
     ensures { λ r. ⌜ r ≡ ceil x t ⌝ }
 {
     (x + (t - 1)) / t
@@ -50,7 +50,7 @@ fn interference(above: bool, t: Task, w: u64) -> u64
 }
 
 // demand(w) of a task with the marked tasks above it.
-pub fn demand(set: TaskSet, task: TaskIndex, above: [bool; MAX_TASKS], w: u64) -> u64
+fn demand(set: TaskSet, task: TaskIndex, above: [bool; MAX_TASKS], w: u64) -> u64
     requires { ⌜ isMade set ≡ true ⌝ }
     requires { ⌜ task .0 < set .ntasks ⌝ }
     requires { ⌜ w ≤ maxPeriod ⌝ }

@@ -17,7 +17,7 @@ use Rattle.taskset.specs.declared.Task.{Task}
 use Rattle.taskset.specs.declared.Rule.{Rule}
 use Rattle.taskset.specs.declared.TaskSet.{TaskSet}
 use Rattle.taskset.specs.Rows.{maxTasks, maxRules, InRanges, Between, firstOf, rowRefusals, indexRefusals}
-use Rattle.taskset.specs.Adding.{blankTask, blankRule, freshSet, rows, taskFits, ruleFits, entry, isMade}
+use Rattle.taskset.specs.Adding.{blankTask, blankRule, freshSet, rows, rules, taskFits, ruleFits, entry, isMade}
 use Rattle.taskset.specs.Calls.{Call, task, rule, after, run, Made, Lists, noLists, lists, append, heard}
 use Rattle.taskset.specs.Laws.{row-accepted, row-accepts, rule-accepted, rule-accepts, task-taken, rule-taken}
 use Rattle.taskset.specs.Holding.{holding, Sound, none-sound, sound-made, run-holding, heard-sound}
@@ -64,35 +64,41 @@ accepted-rule : (n : ℕ) (r : Rule) → T (ruleFits n true r) → Between n r
 unfolding ruleFits
 accepted-rule n r h = rule-accepted n r (eqb→eq (firstOf (indexRefusals n r)) 0 h)
 
--- an array whose unused entries are d is its first n entries, padded
-module _ {A : Type 0} (fits : Bool → A → Bool) (limit n : ℕ) (d : A) (xs : List A) (size : length xs ≡ limit) (few : n ≤ limit) (fit : (i : ℕ) → i < limit → T (entry fits d n xs i)) where
-  length-used : length (take n xs) ≡ n
-  length-used = length-take-le n xs (omega arith)
+-- an array of which n entries are used: those fit, and it is those, padded
+record Used {A : Type 0} (fits : Bool → A → Bool) (limit n : ℕ) (d : A) (xs : List A) : Type 0 where
+  long : length (take n xs) ≡ n
+  fit : (i : ℕ) → i < length (take n xs) → T (fits true (getD (take n xs) i d))
+  padded : pad limit d (take n xs) ≡ xs
 
-  entry-used : (i : ℕ) → i < length (take n xs) → T (fits true (getD (take n xs) i d))
-  entry-used i h =
-      let under : i < n = omega (arith, length-used) in
-      rw (getD-take n xs i d under) (rw (lt-ltb i n under) at (fit i (omega arith)))
+used : {A : Type 0} (fits : Bool → A → Bool) (limit n : ℕ) (d : A) (xs : List A) → ((x : A) → T (fits false x) → x ≡ d)
+    → length xs ≡ limit → n ≤ limit → ((i : ℕ) → i < limit → T (entry fits d n xs i)) → Used fits limit n d xs
+used fits limit n d xs blank size few fit =
+    record { long = long; fit = fits-used; padded = ext-getD d (pad limit d (take n xs)) xs same-length at }
+  where
+    long : length (take n xs) ≡ n
+    long = length-take-le n xs (omega arith)
 
-  pad-used-entries : ((x : A) → T (fits false x) → x ≡ d) → pad limit d (take n xs) ≡ xs
-  pad-used-entries blank = ext-getD d (pad limit d (take n xs)) xs padded at
-    where
-      padded : length (pad limit d (take n xs)) ≡ length xs
-      padded =
-          length-append (take n xs) (replicate (limit - length (take n xs)) d)
-          ∙ omega (arith, length-used, length-replicate (limit - length (take n xs)) d)
+    fits-used : (i : ℕ) → i < length (take n xs) → T (fits true (getD (take n xs) i d))
+    fits-used i h =
+        let under : i < n = omega (arith, long) in
+        rw (getD-take n xs i d under) (rw (lt-ltb i n under) at (fit i (omega arith)))
 
-      go : (i : ℕ) → i < limit → (b : Bool) → ltb i n ≡ b → T (fits b (getD xs i d))
-          → getD (pad limit d (take n xs)) i d ≡ getD xs i d
-      go i h true e t =
-          let under = ltb-true i n e in
-          pad-used limit d (take n xs) i (omega (arith, length-used)) ∙ getD-take n xs i d under
-      go i h false e t =
-          let over = ltb-false i n e in
-          pad-unused limit d (take n xs) i (omega (arith, length-used)) h ∙ sym (blank (getD xs i d) t)
+    same-length : length (pad limit d (take n xs)) ≡ length xs
+    same-length =
+        length-append (take n xs) (replicate (limit - length (take n xs)) d)
+        ∙ omega (arith, long, length-replicate (limit - length (take n xs)) d)
 
-      at : (i : ℕ) → i < length (pad limit d (take n xs)) → getD (pad limit d (take n xs)) i d ≡ getD xs i d
-      at i h = let l : i < limit = omega (arith, padded) in go i l (ltb i n) refl (fit i l)
+    go : (i : ℕ) → i < limit → (b : Bool) → ltb i n ≡ b → T (fits b (getD xs i d))
+        → getD (pad limit d (take n xs)) i d ≡ getD xs i d
+    go i h true e t =
+        let under = ltb-true i n e in
+        pad-used limit d (take n xs) i (omega (arith, long)) ∙ getD-take n xs i d under
+    go i h false e t =
+        let over = ltb-false i n e in
+        pad-unused limit d (take n xs) i (omega (arith, long)) h ∙ sym (blank (getD xs i d) t)
+
+    at : (i : ℕ) → i < length (pad limit d (take n xs)) → getD (pad limit d (take n xs)) i d ≡ getD xs i d
+    at i h = let l : i < limit = omega (arith, same-length) in go i l (ltb i n) refl (fit i l)
 
 -- what the check looked at
 record Passed (s : TaskSet) : Type 0 where
@@ -134,26 +140,32 @@ rows-row s e i h =
 
 -- what passes holds its lists, and adding has taken them
 module _ (s : TaskSet) (size : Sized s) (e : isMade s ≡ true) where
-  pub tasks-used : length (take (s .ntasks) (s .tasks)) ≡ s .ntasks
-  tasks-used = length-used taskFits maxTasks (s .ntasks) blankTask (s .tasks) (size .0) (passed s e .few-tasks) (passed s e .tasks)
+  used-tasks : Used taskFits maxTasks (s .ntasks) blankTask (s .tasks)
+  used-tasks =
+      let p = passed s e in
+      used taskFits maxTasks (s .ntasks) blankTask (s .tasks) blank-task (size .0) (p .few-tasks) (p .tasks)
 
-  rules-used : length (take (s .nrules) (s .rules)) ≡ s .nrules
-  rules-used = length-used (ruleFits (s .ntasks)) maxRules (s .nrules) blankRule (s .rules) (size .1) (passed s e .few-rules) (passed s e .rules)
+  used-rules : Used (ruleFits (s .ntasks)) maxRules (s .nrules) blankRule (s .rules)
+  used-rules =
+      let p = passed s e in
+      used (ruleFits (s .ntasks)) maxRules (s .nrules) blankRule (s .rules) (blank-rule (s .ntasks)) (size .1) (p .few-rules) (p .rules)
 
   pub passes-holding : holding (lists s) ≡ s
-  passes-holding =
-      let tasks = pad-used-entries taskFits maxTasks (s .ntasks) blankTask (s .tasks) (size .0) (passed s e .few-tasks) (passed s e .tasks) blank-task in
-      let rules = pad-used-entries (ruleFits (s .ntasks)) maxRules (s .nrules) blankRule (s .rules) (size .1) (passed s e .few-rules) (passed s e .rules) (blank-rule (s .ntasks)) in
-      λ i. record { tasks = tasks i; ntasks = tasks-used i; rules = rules i; nrules = rules-used i }
+  passes-holding i =
+      record {
+        tasks = used-tasks .padded i;
+        ntasks = used-tasks .long i;
+        rules = used-rules .padded i;
+        nrules = used-rules .long i;
+      }
 
   pub passes-sound : Sound (lists s)
   passes-sound =
-      let p = passed s e in
       record {
-        few-tasks = omega (arith, tasks-used, p .few-tasks);
-        few-rules = omega (arith, rules-used, p .few-rules);
-        rows = λ i h. accepted-task (getD (lists s .tasks) i blankTask) (entry-used taskFits maxTasks (s .ntasks) blankTask (s .tasks) (size .0) (p .few-tasks) (p .tasks) i h);
-        indices = λ i h. rw tasks-used (accepted-rule (s .ntasks) (getD (lists s .rules) i blankRule) (entry-used (ruleFits (s .ntasks)) maxRules (s .nrules) blankRule (s .rules) (size .1) (p .few-rules) (p .rules) i h));
+        few-tasks = omega (arith, used-tasks .long, passed s e .few-tasks);
+        few-rules = omega (arith, used-rules .long, passed s e .few-rules);
+        rows = λ i h. accepted-task (getD (rows s) i blankTask) (used-tasks .fit i h);
+        indices = λ i h. rw (used-tasks .long) (accepted-rule (s .ntasks) (getD (rules s) i blankRule) (used-rules .fit i h));
       }
 
 -- lists that adding takes are heard whole

@@ -1,6 +1,6 @@
 -- Laws of the refusals and of adding, for proofs to cite. Assumes nothing.
 use mathlib.Core.Path.{_≡_, refl, sym, _∙_}
-use mathlib.Core.Bool.{Bool, true, false, _||_}
+use mathlib.Core.Bool.{Bool, true, false}
 use mathlib.Core.Logic.{_↔_}
 use mathlib.Core.List.{List, [], _∷_, _++_}
 use Prim.Native.Nat.{ℕ, zero, suc, _-_, _≤_, _<_}
@@ -8,7 +8,7 @@ use native.Mathlib.Nat.{suc-ne-zero}
 use native.Mathlib.Omega.{arith}
 use lib.Dec.{T, ltb, leb, eqb, ltb→lt}
 use borrow.Author.Tests.{ltb-false, leb-false, eqb-false, le-ltb, le-leb, lt-leb, ne-eqb}
-use Rattle.sets.specs.Choice.{pick}
+use Rattle.sets.specs.Choice.{pick, or-false-left, or-false-right}
 use Rattle.taskset.specs.declared.Task.{Task}
 use Rattle.taskset.specs.declared.Rule.{Rule}
 use Rattle.taskset.specs.declared.TaskSet.{TaskSet}
@@ -16,14 +16,6 @@ use Rattle.taskset.specs.Rows.{maxTasks, maxRules, maxPeriod, InRanges, 
 use Rattle.taskset.specs.Adding.{isMade, adding}
 
 -- ---- ranges
-
-or-false-left : (a b : Bool) → (a || b) ≡ false → a ≡ false
-or-false-left true b e = e
-or-false-left false b e = refl
-
-or-false-right : (a b : Bool) → (a || b) ≡ false → b ≡ false
-or-false-right true b e = absurd (mathlib.Core.Bool.true≢false e)
-or-false-right false b e = e
 
 pub outside-low : (low high x : ℕ) → outside low high x ≡ false → low ≤ x
 outside-low low high x e = ltb-false x low (or-false-left (ltb x low) (ltb high x) e)

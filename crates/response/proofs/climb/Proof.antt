@@ -1,7 +1,6 @@
 -- `response::climb` meets its contract: no solution lies below w, and w rises to its demand. Assumes nothing.
 use mathlib.Core.Path.{sym, subst}
 use Prim.Native.Nat.{_+_, _-_, _≤_}
-use native.Mathlib.Nat.{lt-of-lt-of-le}
 use native.Mathlib.Omega.{arith}
 use Rattle.taskset.specs.Adding.{rows}
 use Rattle.response.specs.declared.Window.the-variants.{At, Beyond}
@@ -32,12 +31,12 @@ loop-again c =
     (omega arith, subst (Bounds _) (sym (c .before .demand .ensures)) (climb _ (demand-mono _ _ _) _ (inv .1)))
 
 returns : tie.Need-returns Inv-loop μ-loop
-returns c = window-is _ _ Beyond (λ v low met. lt-of-lt-of-le (c .if1 .taken) (c .before .loop .inv .1 v low met))
+returns c = window-is _ _ Beyond (λ v low met. omega (arith, c .before .loop .inv .1 v low met))
 
 returns-2 : tie.Need-returns-2 Inv-loop μ-loop
 returns-2 c =
     let inv = c .before .before .before .loop .inv in
-    window-is _ _ (At _) (record { low = inv .0; met = omega (arith, c .before .demand .ensures); least = inv .1 }, c .before .before .if1 .left)
+    window-is _ _ (At _) (record { low = inv .0; met = omega (arith, c .before .demand .ensures); least = inv .1 }, omega arith)
 
 pub climb-spec : {M : Type 1} → statement M
 climb-spec =

@@ -2,7 +2,7 @@
 -- First what the words say, as relations; then the same as functions that contracts cite. `Agreement` proves that they agree.
 -- Assumes nothing.
 use mathlib.Core.Path.{_≡_}
-use mathlib.Core.Bool.{Bool, false}
+use mathlib.Core.Bool.{Bool}
 use mathlib.Core.List.{List}
 use Prim.Native.Nat.{ℕ, zero, suc, _+_, _-_, _*_, _/_, _≤_, _<_}
 use lib.Dec.{leb}
@@ -22,10 +22,6 @@ ceil x t = (x + (t - 1)) / t
 
 abbrev pub taskAt : List Task → ℕ → Task
 taskAt tasks i = getD tasks i blankTask
-
--- the set of task indices that an array of marks stands for
-abbrev pub marked : List Bool → ℕ → Bool
-marked marks j = getD marks j false
 
 -- ⌈(w + J) / T⌉ × C
 unfoldable pub interference : Task → ℕ → ℕ

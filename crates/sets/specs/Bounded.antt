@@ -1,6 +1,6 @@
 -- Tests over the numbers below a bound: all pass, some passes, the greatest that passes, how many pass.
 -- A set of numbers is a test, ℕ → Bool, of which only what lies below the bound counts. Assumes nothing.
-use mathlib.Core.Path.{_≡_, refl, subst}
+use mathlib.Core.Path.{_≡_, refl, sym, subst}
 use mathlib.Core.Bool.{Bool, true, false, _&&_, _||_}
 use mathlib.Core.Logic.{⊎-elim}
 use mathlib.Core.Option.{Option, none, some}
@@ -8,12 +8,27 @@ use Prim.Native.Nat.{ℕ, zero, suc, _+_, _≤_, _<_}
 use native.Mathlib.Nat.{not-suc-le-zero, le-of-suc-le-suc, eq-or-lt-of-le, le-refl, le-step, not-suc-le-self, lt-of-lt-of-le, add-le-add, add-lt-add-of-lt-of-le, add-lt-add-of-le-of-lt}
 use native.Mathlib.Numerals.{add-one}
 use native.Mathlib.Omega.{arith}
-use lib.Dec.{T}
-use Rattle.sets.specs.Choice.{pick, and-intro, and-left, and-right, or-cases, or-left, or-right, T→true, true→T, refuted→false, false→refuted}
+use lib.Dec.{T, eqb, eqb→eq, eqb-refl}
+use Rattle.sets.specs.Choice.{pick, decided, and-intro, and-left, and-right, or-cases, or-left, or-right, T→true, true→T, refuted→false, false→refuted}
 
 -- every number below n that is in B is in A
 abbrev pub Subset : ℕ → (ℕ → Bool) → (ℕ → Bool) → Type 0
 Subset n B A = (j : ℕ) → j < n → T (B j) → T (A j)
+
+-- the set A without k
+abbrev pub without : (ℕ → Bool) → ℕ → ℕ → Bool
+without A k j = pick (eqb k j) false (A j)
+
+pub without-still : (A : ℕ → Bool) (k j : ℕ) → T (without A k j) → T (A j) × (k ≡ j → ⊥)
+without-still A k j t = go (eqb k j) refl t
+  where
+    go : (b : Bool) → eqb k j ≡ b → T (pick b false (A j)) → T (A j) × (k ≡ j → ⊥)
+    go true e s = absurd s
+    go false e s = (s, λ f. false→refuted (eqb k j) e (subst (λ (i : ℕ). T (eqb k i)) f (eqb-refl k)))
+
+pub without-other : (A : ℕ → Bool) (k j : ℕ) → (k ≡ j → ⊥) → T (A j) → T (without A k j)
+without-other A k j apart t =
+    subst (λ (b : Bool). T (pick b false (A j))) (sym (refuted→false (eqb k j) (λ s. apart (eqb→eq k j s)))) t
 
 -- what holds below n and at n holds below suc n
 pub below-suc : (P : ℕ → Type 0) (n : ℕ) → ((k : ℕ) → k < n → P k) → P n → (k : ℕ) → k < suc n → P k
@@ -54,6 +69,10 @@ pub all-whole : (n i : ℕ) (p : ℕ → Bool) → i ≤ n → n ≤ i → T (al
 all-whole n i p under over t =
     let e : i ≡ n = omega arith in
     T→true (all n p) (subst (λ (m : ℕ). T (all m p)) e t)
+
+pub all-next : (i : ℕ) (p : ℕ → Bool) → all (i + 1) p ≡ (p i && all i p)
+unfolding all
+all-next i p = rw add-one
 
 -- ---- some
 
@@ -113,6 +132,15 @@ greatest-is (suc n) p = go (p n) refl (greatest-is n p)
     go true at g = found n (record { below = le-refl (suc n); passes = true→T (p n) at; last = λ j h l. absurd (not-suc-le-self j (lt-of-lt-of-le h l)) })
     go false at g = greater n p (greatest n p) (false→refuted (p n) at) g
 
+-- a loop that counts down: one that passes, and one that doesn't
+pub greatest-at : (i : ℕ) (p : ℕ → Bool) → p i ≡ true → greatest (suc i) p ≡ some i
+unfolding greatest
+greatest-at i p e = rw e
+
+pub greatest-under : (i : ℕ) (p : ℕ → Bool) → p i ≡ false → greatest (suc i) p ≡ greatest i p
+unfolding greatest
+greatest-under i p e = rw e
+
 -- ---- how many
 
 unfoldable pub count : ℕ → (ℕ → Bool) → ℕ
@@ -158,3 +186,41 @@ count-less (suc n) B A w k h a b =
         let a′ = T→true (A n) (subst (λ (m : ℕ). T (A m)) e a) in
         let b′ = refuted→false (B n) (subst (λ (m : ℕ). T (B m) → ⊥) e b) in
         rw (a′, b′) (add-lt-add-of-le-of-lt (count-mono n B A under) (le-refl 1))
+
+-- a set with at most the one member k more has at most one more
+pub count-but : (n : ℕ) (B A : ℕ → Bool) (k : ℕ) → ((j : ℕ) → j < n → T (A j) → (j ≡ k → ⊥) → T (B j))
+    → count n A ≤ suc (count n B)
+unfolding count
+count-but zero B A k w = omega arith
+count-but (suc n) B A k w = ⊎-elim at-n (beside (count-but n B A k (λ j h. w j (le-step h)))) (decided (eqb n k))
+  where
+    at-n : T (eqb n k) → count (suc n) A ≤ suc (count (suc n) B)
+    at-n t =
+        let e = eqb→eq n k t in
+        let below = count-mono n A B (λ j h a. w j (le-step h) a (λ f. omega arith)) in
+        let one = step-le true (A n) (λ s. tt) in
+        omega arith
+
+    beside : count n A ≤ suc (count n B) → (T (eqb n k) → ⊥) → count (suc n) A ≤ suc (count (suc n) B)
+    beside below apart =
+        let step = step-le (B n) (A n) (λ a. w n (le-refl (suc n)) a (λ e. apart (subst (λ (m : ℕ). T (eqb n m)) e (eqb-refl n)))) in
+        omega arith
+
+pub count-whole : (n : ℕ) (A : ℕ → Bool) → ((j : ℕ) → j < n → T (A j)) → count n A ≡ n
+unfolding count
+count-whole zero A each = refl
+count-whole (suc n) A each = rw (count-whole n A (λ j h. each j (le-step h)), T→true (A n) (each n (le-refl (suc n)))) (add-one n)
+
+-- there is a member exactly when they number more than 0
+pub count-some : (n : ℕ) (A : ℕ → Bool) → 0 < count n A → (k : ℕ) × (k < n) × T (A k)
+unfolding count
+count-some zero A h = absurd (omega arith)
+count-some (suc n) A h = go (A n) refl (count-some n A) h
+  where
+    go : (b : Bool) → A n ≡ b → (0 < count n A → (k : ℕ) × (k < n) × T (A k)) → 0 < count n A + pick b 1 0
+        → (k : ℕ) × (k < suc n) × T (A k)
+    go true e below l = (n, le-refl (suc n), true→T (A n) e)
+    go false e below l = let r = below (omega arith) in (r .0, le-step (r .1), r .2)
+
+pub count-pos : (n : ℕ) (A : ℕ → Bool) (k : ℕ) → k < n → T (A k) → 0 < count n A
+count-pos n A k h a = let l = count-less n (λ j. false) A (λ j i t. absurd t) k h a (λ t. t) in omega arith

@@ -1,12 +1,20 @@
 -- A choice by a test, and tests as facts: `T b` says that the test b passes. Assumes nothing.
 use mathlib.Core.Path.{_≡_, refl}
-use mathlib.Core.Bool.{Bool, true, false, _&&_, _||_, true≢false, false≢true}
+use mathlib.Core.Bool.{Bool, true, false, not, _&&_, _||_, true≢false, false≢true}
 use mathlib.Core.Logic.{_⊎_, inl, inr}
-use lib.Dec.{T}
+use mathlib.Core.Option.{Option, none, some}
+use Prim.Native.Nat.{ℕ, _≤_, _<_}
+use lib.Dec.{T, ltb}
+use borrow.Author.Tests.{ltb-true, ltb-false}
 
 abbrev pub pick {ℓ} : {A : Type ℓ} → Bool → A → A → A
 pick true a b = a
 pick false a b = b
+
+-- a choice by whether there is a value
+abbrev pub option : {A B : Type 0} → B → (A → B) → Option A → B
+option b f none = b
+option b f (some a) = f a
 
 -- ---- a test as an equation
 
@@ -26,9 +34,24 @@ pub false→refuted : (b : Bool) → b ≡ false → T b → ⊥
 false→refuted true e t = true≢false e
 false→refuted false e t = t
 
+pub not→refuted : (b : Bool) → T (not b) → T b → ⊥
+not→refuted true t s = t
+not→refuted false t s = s
+
+pub refuted→not : (b : Bool) → (T b → ⊥) → T (not b)
+refuted→not true h = h tt
+refuted→not false h = tt
+
 pub decided : (b : Bool) → T b ⊎ (T b → ⊥)
 decided true = inl tt
 decided false = inr (λ t. t)
+
+pub lt-or-le : (a b : ℕ) → (a < b) ⊎ (b ≤ a)
+lt-or-le a b = go (ltb a b) refl
+  where
+    go : (c : Bool) → ltb a b ≡ c → (a < b) ⊎ (b ≤ a)
+    go true e = inl (ltb-true a b e)
+    go false e = inr (ltb-false a b e)
 
 -- two tests that pass together are equal
 pub same-test : (a b : Bool) → (T a → T b) → (T b → T a) → a ≡ b
@@ -50,6 +73,10 @@ and-left false b t = t
 pub and-right : (a b : Bool) → T (a && b) → T b
 and-right true b t = t
 and-right false b t = absurd t
+
+pub and-true : (a : Bool) → a ≡ (a && true)
+and-true true = refl
+and-true false = refl
 
 pub or-cases : (a b : Bool) → T (a || b) → T a ⊎ T b
 or-cases true b t = inl tt

@@ -3,3 +3,4 @@ pub mod Bounded
 pub mod Sum
 pub mod Rank
 pub mod Pad
+pub mod Marks

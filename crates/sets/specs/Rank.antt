@@ -1,13 +1,14 @@
 -- Where a number first stands in a list: its rank, the list's length where it does not stand there. Assumes nothing.
-use mathlib.Core.Path.{_≡_, refl}
+use mathlib.Core.Path.{_≡_, refl, sym, ap, subst, _∙_}
 use mathlib.Core.Bool.{Bool, true, false}
 use mathlib.Core.List.{List, [], _∷_}
 use mathlib.Core.Logic.{⊎-elim}
-use Prim.Native.Nat.{ℕ, zero, suc, _≤_, _<_, suc-le-suc}
+use Prim.Native.Nat.{ℕ, zero, suc, _+_, _-_, _≤_, _<_, suc-le-suc}
 use native.Mathlib.Nat.{le-refl, not-suc-le-zero, le-of-suc-le-suc, lt-of-le-of-lt, eq-or-lt-of-le}
 use native.Mathlib.Omega.{arith}
 use lib.Dec.{eqb, eqb→eq, eqb-refl}
-use lib.ListN.{length, getD}
+use lib.ListN.{length, getD, drop, length-drop}
+use lib.Seq.{getD-drop}
 use Rattle.sets.specs.Choice.{pick, true→T, T→true}
 
 abbrev pub rank : List ℕ → ℕ → ℕ
@@ -51,3 +52,18 @@ pub rank-getD : (xs : List ℕ) → Distinct xs → (i : ℕ) → i < length xs 
 rank-getD xs distinct i h =
     ⊎-elim (λ e. e) (λ l. absurd (distinct (rank xs (getD xs i 0)) i l h (getD-rank xs (getD xs i 0) (getD-member xs i h))))
     (eq-or-lt-of-le (rank-le xs i h))
+
+-- what stands in the list from index k on has a rank of at least k, and the other way round
+pub drop-rank : (xs : List ℕ) → Distinct xs → (k x : ℕ) → Member (drop k xs) x → k ≤ rank xs x
+drop-rank xs distinct k x m =
+    let r = rank (drop k xs) x in
+    let here : getD xs (k + r) 0 ≡ x = sym (getD-drop k xs r 0) ∙ getD-rank (drop k xs) x m in
+    let at = rank-getD xs distinct (k + r) (omega (arith, length-drop k xs)) in
+    omega (arith, ap (rank xs) here)
+
+pub rank-drop : (xs : List ℕ) (k x : ℕ) → Member xs x → k ≤ rank xs x → Member (drop k xs) x
+rank-drop xs k x m h =
+    let r = rank xs x - k in
+    let e : k + r ≡ rank xs x = omega arith in
+    let here : getD (drop k xs) r 0 ≡ x = getD-drop k xs r 0 ∙ ap (λ (i : ℕ). getD xs i 0) e ∙ getD-rank xs x m in
+    subst (Member (drop k xs)) here (getD-member (drop k xs) r (omega (arith, length-drop k xs)))

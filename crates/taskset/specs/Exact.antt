@@ -124,14 +124,23 @@ passed s e =
       rules = all-at maxRules (entry (ruleFits (s .ntasks)) blankRule (s .nrules) (s .rules)) (and-right (a && b && c) d abcd);
     }
 
--- so there are few enough tasks, and a used row is within its ranges
+-- so there are few enough tasks and rules, a used row is within its ranges, and a used rule stands between tasks
 pub passes-few : (s : TaskSet) → isMade s ≡ true → s .ntasks ≤ maxTasks
 passes-few s e = passed s e .few-tasks
+
+pub passes-few-rules : (s : TaskSet) → isMade s ≡ true → s .nrules ≤ maxRules
+passes-few-rules s e = passed s e .few-rules
 
 pub passes-row : (s : TaskSet) → isMade s ≡ true → (i : ℕ) → i < s .ntasks → InRanges (getD (s .tasks) i blankTask)
 passes-row s e i h =
     let few = passed s e .few-tasks in
     accepted-task (getD (s .tasks) i blankTask) (rw (lt-ltb i (s .ntasks) h) at (passed s e .tasks i (omega arith)))
+
+pub passes-rule : (s : TaskSet) → isMade s ≡ true → (k : ℕ) → k < s .nrules
+    → Between (s .ntasks) (getD (s .rules) k blankRule)
+passes-rule s e k h =
+    let few = passed s e .few-rules in
+    accepted-rule (s .ntasks) (getD (s .rules) k blankRule) (rw (lt-ltb k (s .nrules) h) at (passed s e .rules k (omega arith)))
 
 pub rows-row : (s : TaskSet) → isMade s ≡ true → (i : ℕ) → i < length (rows s) → InRanges (getD (rows s) i blankTask)
 rows-row s e i h =
@@ -158,6 +167,10 @@ module _ (s : TaskSet) (size : Sized s) (e : isMade s ≡ true) where
         rules = used-rules .padded i;
         nrules = used-rules .long i;
       }
+
+  -- as many as the counts say
+  pub passes-counts : (length (rows s) ≡ s .ntasks) × (length (rules s) ≡ s .nrules)
+  passes-counts = (used-tasks .long, used-rules .long)
 
   pub passes-sound : Sound (lists s)
   passes-sound =

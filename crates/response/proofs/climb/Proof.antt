@@ -4,7 +4,8 @@ use Prim.Native.Nat.{_+_, _-_, _≤_}
 use native.Mathlib.Omega.{arith}
 use Rattle.taskset.specs.Adding.{rows}
 use Rattle.response.specs.declared.Window.the-variants.{At, Beyond}
-use Rattle.response.specs.Equation.{marked, demand}
+use Rattle.sets.specs.Marks.{marked}
+use Rattle.response.specs.Equation.{demand}
 use Rattle.response.specs.Demand.{demand-mono}
 use Rattle.response.specs.Agreement.{Bounds, climb, window-is}
 use Rattle.response.proofs.climb.Statement.{statement}

@@ -6,7 +6,8 @@ use lib.ListN.{length, length-map}
 use Rattle.sets.specs.Sum.{sum, sum-start, sum-turn, sum-end}
 use Rattle.taskset.specs.Rows.{maxTasks, InRanges}
 use Rattle.taskset.specs.Exact.{passes-few, passes-row}
-use Rattle.response.specs.Equation.{taskAt, marked, interference}
+use Rattle.sets.specs.Marks.{marked}
+use Rattle.response.specs.Equation.{taskAt, interference}
 use Rattle.response.specs.Demand.{interference-sum, demand-first}
 use Rattle.response.proofs.demand.Statement.{statement}
 use Rattle.response.proofs.demand.Tie as tie

@@ -7,7 +7,8 @@ use lib.ListN.{length, length-map}
 use Rattle.sets.specs.Sum.{sum, sum-start, sum-turn, sum-end}
 use Rattle.taskset.specs.Rows.{maxTasks, InRanges}
 use Rattle.taskset.specs.Exact.{passes-few, passes-row}
-use Rattle.response.specs.Equation.{taskAt, marked}
+use Rattle.sets.specs.Marks.{marked}
+use Rattle.response.specs.Equation.{taskAt}
 use Rattle.response.specs.Demand.{sum-first}
 use Rattle.response.specs.Climb.{rate, rate-sum}
 use Rattle.response.proofs.load.Statement.{statement}

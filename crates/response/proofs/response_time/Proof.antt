@@ -5,7 +5,8 @@ use native.Mathlib.Omega.{arith}
 use borrow.Author.Needs.{needs}
 use Rattle.taskset.specs.Rows.{maxTasks, InRanges}
 use Rattle.taskset.specs.Exact.{passes-few, passes-row}
-use Rattle.response.specs.Equation.{taskAt, marked, respond}
+use Rattle.sets.specs.Marks.{marked}
+use Rattle.response.specs.Equation.{taskAt, respond}
 use Rattle.response.specs.Climb.{late-by-jitter, late-by-load, start-positive, start-below, found-response}
 use Rattle.response.specs.Agreement.{response-both, window-room}
 use Rattle.response.proofs.response_time.Statement.{statement}

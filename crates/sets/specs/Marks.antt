@@ -1,0 +1,51 @@
+-- An array of marks as a set of indices. Assumes nothing.
+use mathlib.Core.Path.{_≡_, refl, sym, ap, _∙_, fun-ext}
+use mathlib.Core.Bool.{Bool, true, false}
+use mathlib.Core.List.{List}
+use mathlib.Core.Logic.{⊎-elim}
+use Prim.Native.Nat.{ℕ, _+_, _<_}
+use native.Mathlib.Omega.{arith}
+use lib.Dec.{eqb, ltb, ltb→lt, lt→ltb}
+use lib.ListN.{length, getD, set, replicate, length-replicate, getD-replicate, List·getD-eq-default}
+use lib.Seq.{getD-set-same, getD-set-other}
+use borrow.Author.Tests.{eqb-true, eqb-false, lt-ltb, le-ltb}
+use Rattle.sets.specs.Choice.{pick, lt-or-le, same-test}
+use Rattle.sets.specs.Bounded.{without}
+
+-- the indices that are marked
+abbrev pub marked : List Bool → ℕ → Bool
+marked marks j = getD marks j false
+
+-- a mark written
+pub marked-store : (marks : List Bool) (k : ℕ) (b : Bool) → k < length marks → (j : ℕ)
+    → marked (set marks k b) j ≡ pick (eqb k j) b (marked marks j)
+marked-store marks k b h j = go (eqb k j) refl
+  where
+    go : (c : Bool) → eqb k j ≡ c → marked (set marks k b) j ≡ pick c b (marked marks j)
+    go true e = ap (marked (set marks k b)) (sym (eqb-true k j e)) ∙ getD-set-same marks k b false h
+    go false e = getD-set-other marks k j b false (λ f. eqb-false k j e (sym f))
+
+-- taking a mark away
+pub marked-without : (marks : List Bool) (k : ℕ) → k < length marks → marked (set marks k false) ≡ without (marked marks) k
+marked-without marks k h = fun-ext (marked-store marks k false h)
+
+-- no marks, and those of the first j
+pub marked-none : (n : ℕ) → marked (replicate n false) ≡ (λ j. false)
+marked-none n =
+    fun-ext (λ j. ⊎-elim (λ l. getD-replicate n j false false l)
+    (λ g. List·getD-eq-default (replicate n false) false (omega (arith, length-replicate n false)))
+    (lt-or-le j n))
+
+pub marked-first-none : (n : ℕ) → marked (replicate n false) ≡ (λ i. ltb i 0)
+marked-first-none n = marked-none n ∙ fun-ext (λ i. sym (le-ltb i 0 (omega arith)))
+
+pub marked-first : (marks : List Bool) (j : ℕ) → j < length marks → marked marks ≡ (λ i. ltb i j)
+    → marked (set marks j true) ≡ (λ i. ltb i (j + 1))
+marked-first marks j h e = fun-ext (λ i. marked-store marks j true h i ∙ go i (eqb j i) refl (ap (λ (f : ℕ → Bool). f i) e))
+  where
+    go : (i : ℕ) (b : Bool) → eqb j i ≡ b → marked marks i ≡ ltb i j → pick b true (marked marks i) ≡ ltb i (j + 1)
+    go i true f g = sym (lt-ltb i (j + 1) (omega (arith, eqb-true j i f)))
+    go i false f g =
+        let apart = eqb-false j i f in
+        g ∙ same-test (ltb i j) (ltb i (j + 1)) (λ t. lt→ltb i (j + 1) (omega (arith, ltb→lt i j t)))
+        (λ t. lt→ltb i j (⊎-elim (λ l. l) (λ l. absurd (apart (omega (arith, l, ltb→lt i (j + 1) t)))) (lt-or-le i j)))

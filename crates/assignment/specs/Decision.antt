@@ -298,3 +298,23 @@ module _ (p : Problem) (inPlay : ℕ → Bool) where
   feasible-exactly lawful =
       let d = fill-decides lawful (p .tasks) [] (omega arith) empty in
       (λ t. d .0 (eqb→eq (length (assign p inPlay)) (p .tasks) t), λ s. true→T (eqb (length (assign p inPlay)) (p .tasks)) (eq-eqb (length (assign p inPlay)) (p .tasks) (d .1 s)))
+
+-- ---- fewer rules in play
+
+module _ (p : Problem) (less more : ℕ → Bool) (fewer : Subset (length (p .rules)) less more) where
+  may-fewer : (free : ℕ → Bool) (i : ℕ) → T (mayTake p more free i) → T (mayTake p less free i)
+  may-fewer free i t =
+      let r = may-ready p more free i t in
+      may-of p less free i (ready-of p less free i (ready-free p more free i r) (λ k h on. ready-below p more free i r k h (fewer k h on))) (may-pass p more free i t)
+
+  -- the same levels may be filled
+  pub filled-fewer : (low : List ℕ) → Filled p more low → Filled p less low
+  filled-fewer all empty = empty
+  filled-fewer all (level i low h t f) = level i low h (may-fewer (unassigned p low) i t) (filled-fewer low f)
+
+  -- and what was feasible stays so
+  pub feasible-fewer : Lawful p → T (feasible p more) → T (feasible p less)
+  feasible-fewer lawful t =
+      let s = feasible-exactly p more lawful .0 t in
+      feasible-exactly p less lawful .1
+      (s .0, record { isOrder = s .1 .isOrder; keeps = λ k h on. s .1 .keeps k h (fewer k h on); meets = s .1 .meets })

@@ -23,7 +23,7 @@ use Rattle.assignment.specs.declared.Choice.the-variants.{Takes, Nobody}
 use Rattle.assignment.specs.Audsley.{ready, unassigned, mayTake, fill, assign}
 use Rattle.assignment.specs.Decision.{unassigned-cons, Filled, empty, filled-count, fill-ends}
 use Rattle.assignment.specs.Preemptive.{SomeOrder, responseAt, isWithin, problem, fill-order}
-use Rattle.assignment.specs.Levels.{index, time, offer, chosen, responses, lowest, Stands, Resumes}
+use Rattle.assignment.specs.Levels.{index, time, offer, chosen, responses, lowest, Stands, Resumes, Searched}
 
 -- ---- the arrays
 
@@ -84,7 +84,7 @@ module _ (n : ℕ) (offers : ℕ → Response) where
       go (some i) f e = absurd (subst someone e tt)
       go none f e = f
 
-responses-length : (l : Lists) (low : List ℕ) → length (responses l low) ≡ length low
+pub responses-length : (l : Lists) (low : List ℕ) → length (responses l low) ≡ length low
 responses-length l [] = refl
 responses-length l (i ∷ low) = ap suc (responses-length l low)
 
@@ -253,3 +253,7 @@ assign-decides l sound inPlay a s =
     let n = length (l .tasks) in
     let all : n ≡ n - 0 = omega arith in
     search-decides l sound inPlay [] empty a (subst (λ (k : ℕ). Stands l (fill (problem l) inPlay k []) a) all s)
+
+pub assign-searched : (l : Lists) (inPlay : ℕ → Bool) (a : Assignment) → Stands l (assign (problem l) inPlay) a
+    → Searched l inPlay a
+assign-searched l inPlay a s = (assign (problem l) inPlay, fill-ends (problem l) inPlay (length (l .tasks)) [] (omega arith) empty .0, s)

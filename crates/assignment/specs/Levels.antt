@@ -18,6 +18,7 @@ use Rattle.assignment.specs.declared.Assignment.{Assignment}
 use Rattle.assignment.specs.declared.Choice.{Choice}
 use Rattle.assignment.specs.declared.Choice.the-variants.{Takes, Nobody}
 use Rattle.assignment.specs.Audsley.{unassigned, fill}
+use Rattle.assignment.specs.Decision.{Filled}
 use Rattle.assignment.specs.Preemptive.{responseAt, isWithin, problem}
 
 abbrev pub index : ℕ → TaskIndex
@@ -57,3 +58,7 @@ abbrev pub Resumes : Lists → (ℕ → Bool) → Assignment → Assignment → 
 Resumes l inPlay from r =
     (low : List ℕ) → length low ≤ length (l .tasks) → Stands l low from
     → Stands l (fill (problem l) inPlay (length (l .tasks) - length low) low) r
+
+-- a search that may have filled its levels with these rules in play
+abbrev pub Searched : Lists → (ℕ → Bool) → Assignment → Type 0
+Searched l inPlay a = (low : List ℕ) × Filled (problem l) inPlay low × Stands l low a

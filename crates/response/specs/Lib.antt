@@ -2,4 +2,3 @@ pub mod Equation
 pub mod Agreement
 pub mod Demand
 pub mod Climb
-pub mod Examples

@@ -1,11 +1,14 @@
 -- A list as the front of an array of n entries, the rest of which is d. Assumes nothing.
-use mathlib.Core.Path.{_≡_, sym, ap, _∙_}
-use mathlib.Core.List.{List, [], _∷_, _++_}
-use Prim.Native.Nat.{ℕ, suc, _+_, _-_, _≤_, _<_}
+use mathlib.Core.Path.{_≡_, refl, sym, ap, _∙_}
+use mathlib.Core.List.{List, [], _∷_, _++_, map}
+use mathlib.Core.Logic.{⊎-elim}
+use Prim.Native.Nat.{ℕ, zero, suc, _+_, _-_, _≤_, _<_}
+use native.Mathlib.Nat.{not-suc-le-zero, le-of-suc-le-suc}
 use native.Mathlib.Numerals.{add-one}
 use native.Mathlib.Omega.{arith}
-use lib.ListN.{length, getD, set, replicate, length-append, getD-replicate, List·getD-append}
-use lib.Seq.{set-append-seam, getD-append-add, append-snoc}
+use lib.ListN.{length, getD, set, replicate, length-append, length-replicate, take, getD-replicate, List·getD-append, List·getD-eq-default}
+use lib.Seq.{take-append-seam, set-append-seam, getD-append-add, append-snoc}
+use Rattle.sets.specs.Choice.{lt-or-le}
 
 module _ {A : Type 0} where
   abbrev pub pad : ℕ → A → List A → List A
@@ -15,6 +18,12 @@ module _ {A : Type 0} where
   replicate-less n k d h =
       let e : n - k ≡ suc (n - suc k) = omega arith in
       ap (λ (m : ℕ). replicate m d) e
+
+  pub pad-length : (n : ℕ) (d : A) (xs : List A) → length xs ≤ n → length (pad n d xs) ≡ n
+  pad-length n d xs h =
+      length-append xs (replicate (n - length xs) d)
+      ∙ ap (λ (k : ℕ). length xs + k) (length-replicate (n - length xs) d)
+      ∙ omega arith
 
   -- one entry more
   pub set-pad : (n : ℕ) (d : A) (xs : List A) (x : A) → length xs < n
@@ -32,3 +41,22 @@ module _ {A : Type 0} where
       ap (λ (m : ℕ). getD (pad n d xs) m d) e
       ∙ getD-append-add xs (replicate (n - length xs) d) (k - length xs) d
       ∙ getD-replicate (n - length xs) (k - length xs) d d (omega arith)
+
+  -- from the list's end on, past the array's too
+  pub pad-rest : (n : ℕ) (d : A) (xs : List A) (k : ℕ) → length xs ≤ k → getD (pad n d xs) k d ≡ d
+  pad-rest n d xs k over =
+      ⊎-elim (λ l. pad-unused n d xs k over l)
+      (λ g. List·getD-eq-default (pad n d xs) d
+      (omega (arith, g, over, length-append xs (replicate (n - length xs) d), length-replicate (n - length xs) d)))
+      (lt-or-le k n)
+
+  -- and the list is its front
+  pub take-pad : (n : ℕ) (d : A) (xs : List A) → take (length xs) (pad n d xs) ≡ xs
+  take-pad n d xs = take-append-seam xs (replicate (n - length xs) d)
+
+-- an entry of a list that a function was applied to
+pub map-at : {A B : Type 0} (f : A → B) (xs : List A) (k : ℕ) (d : A) (e : B) → k < length xs
+    → getD (map f xs) k e ≡ f (getD xs k d)
+map-at f [] k d e h = absurd (not-suc-le-zero h)
+map-at f (x ∷ xs) zero d e h = refl
+map-at f (x ∷ xs) (suc k) d e h = map-at f xs k d e (le-of-suc-le-suc h)

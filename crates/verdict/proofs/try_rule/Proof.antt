@@ -1,0 +1,56 @@
+-- `verdict::try_rule` meets its contract: the search that got stuck goes on with one rule less. Assumes nothing.
+use mathlib.Core.Path.{_≡_, sym, _∙_}
+use mathlib.Core.Bool.{false}
+use mathlib.Core.Logic.{_↔_}
+use native.Mathlib.Omega.{arith}
+use borrow.Author.Needs.{needs}
+use lib.Dec.{T}
+use lib.ListN.{length, set, length-map}
+use Rattle.sets.specs.Bounded.{without}
+use Rattle.sets.specs.Marks.{marked, marked-without}
+use Rattle.taskset.specs.Rows.{maxRules}
+use Rattle.taskset.specs.Calls.{lists}
+use Rattle.taskset.specs.Exact.{Sized, passes-counts, passes-sound}
+use Rattle.assignment.specs.Audsley.{feasible}
+use Rattle.assignment.specs.Preemptive.{problem}
+use Rattle.verdict.specs.Cutting.{tried-stays, tried-goes, searched-free, went-on, went-through}
+use Rattle.verdict.proofs.try_rule.Statement.{statement}
+use Rattle.verdict.proofs.try_rule.Tie as tie
+
+sized : (c : tie.Start) → Sized (c .args .set)
+sized c =
+    (sym (length-map (c .args .set .tasks) _) ∙ c .good .0 .1 .1 .0 .1 .0 .1, sym (length-map (c .args .set .rules) _) ∙ c .good .0 .1 .1 .1 .1 .0 .1 .0 .1)
+
+less : (c : tie.Start) → marked (set (c .args .cut .marks) (c .args .k) false) ≡ without (marked (c .args .cut .marks)) (c .args .k)
+less c =
+    let long : length (c .args .cut .marks) ≡ maxRules = sym (length-map (c .args .cut .marks) _) ∙ c .good .1 .0 .1 .1 .0 .1 .0 .1 in
+    marked-without (c .args .cut .marks) (c .args .k) (omega (arith, long, c .pre .1 .0))
+
+array-write-marks : tie.Need-array-write-marks
+array-write-marks c = search needs
+
+resume-requires : tie.Need-resume-requires
+resume-requires c κs =
+    let s = c .before in
+    (s .pre .0, omega (arith, passes-counts (s .args .set) (sized s) (s .pre .0) .0, searched-free _ _ _ (s .pre .1 .1)))
+
+-- every level gets filled exactly where the rules without k are feasible
+through : (c : tie.After-resume) → (c .resume .result .free ≡ 0) ↔ T (feasible (problem (lists (c .before .before .args .set))) (without (marked (c .before .before .args .cut .marks)) (c .before .before .args .k)))
+through c =
+    let s = c .before .before in
+    went-through (lists (s .args .set)) (passes-sound (s .args .set) (sized s) (s .pre .0)) (marked (s .args .cut .marks)) (s .args .k) (s .args .cut .stuck)
+    (s .pre .1 .1) _ (less s) _ (c .resume .ensures)
+
+returns : tie.Need-returns
+returns c = (tried-stays _ _ _ (through (c .before .before) .0 (c .if1 .taken)), c .before .before .before .before .pre .1 .1)
+
+returns-2 : tie.Need-returns-2
+returns-2 c =
+    let s = c .before .before .before .before in (
+      less s ∙ tried-goes _ _ _ (λ t. c .if1 .left (through (c .before .before) .1 t)),
+      went-on (lists (s .args .set)) (passes-sound (s .args .set) (sized s) (s .pre .0)) (marked (s .args .cut .marks)) (s .args .k) (s .args .cut .stuck)
+          (s .pre .1 .1) _ (less s) _ (c .before .before .resume .ensures),
+    )
+
+pub try-rule-spec : {M : Type 1} → statement M
+try-rule-spec = tie.close (tie.spec array-write-marks resume-requires returns returns-2)

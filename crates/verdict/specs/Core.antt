@@ -1,0 +1,24 @@
+-- Document 01's core, over any test of whether a set of rules is feasible: rules are tried from place 0 upward, and one is taken
+-- out for good when what is left is still infeasible. A set of rules goes by places, so equal rules are told apart.
+-- Assumes nothing.
+use mathlib.Core.Bool.{Bool}
+use Prim.Native.Nat.{ℕ, zero, suc}
+use lib.Dec.{ltb}
+use Rattle.sets.specs.Choice.{pick}
+use Rattle.sets.specs.Bounded.{without}
+
+-- all of m rules
+abbrev pub first : ℕ → ℕ → Bool
+first m k = ltb k m
+
+-- rule k tried: out for good where the others in play are infeasible
+unfoldable pub tried : ((ℕ → Bool) → Bool) → (ℕ → Bool) → ℕ → ℕ → Bool
+tried feasible inPlay k = let less = without inPlay k in pick (feasible less) inPlay less
+
+-- what is left of m rules after the first k were tried, and after all were
+unfoldable pub leftAfter : ((ℕ → Bool) → Bool) → ℕ → ℕ → ℕ → Bool
+leftAfter feasible m zero = first m
+leftAfter feasible m (suc k) = tried feasible (leftAfter feasible m k) k
+
+abbrev pub coreOf : ((ℕ → Bool) → Bool) → ℕ → ℕ → Bool
+coreOf feasible m = leftAfter feasible m m

@@ -1,0 +1,11 @@
+pub mod Core
+pub mod CoreLaws
+pub mod Verdict
+pub mod Demand3
+pub mod Replay
+pub mod Cutting
+pub mod Replaying
+pub mod Solving
+pub mod Explained
+pub mod Theorem
+pub mod Cases

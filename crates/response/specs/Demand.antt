@@ -10,7 +10,7 @@ use native.Mathlib.Omega.{arith}
 use lib.ListN.{length, take}
 use lib.Seq.{length-take-le, getD-take}
 use Rattle.sets.specs.Bounded.{Subset}
-use Rattle.sets.specs.Sum.{sum, sum-mono, sum-cong, sum-le}
+use Rattle.sets.specs.Sum.{sum, sum-end, sum-mono, sum-cong, sum-le}
 use Rattle.taskset.specs.declared.Task.{Task}
 use Rattle.taskset.specs.Rows.{maxTasks, maxPeriod, InRanges}
 use Rattle.taskset.specs.Adding.{blankTask}
@@ -80,6 +80,12 @@ pub sum-first : (n : ℕ) (tasks : List Task) (above : ℕ → Bool) (f : Task �
 sum-first n tasks above f h =
     rw (length-take-le n tasks h)
     (sum-cong n above (λ j. f (taskAt tasks j)) (λ j. f (taskAt (take n tasks) j)) (λ j l. ap f (sym (getD-take n tasks j blankTask l))))
+
+-- the total of a loop over them
+pub sum-first-end : (total base j n : ℕ) (tasks : List Task) (above : ℕ → Bool) (f : Task → ℕ) → total ≡ base + sum j above (λ k. f (taskAt tasks k))
+    → j ≤ n → n ≤ j → n ≤ length tasks → total ≡ base + sum (length (take n tasks)) above (λ k. f (taskAt (take n tasks) k))
+sum-first-end total base j n tasks above f e under over h =
+    sum-end total base j n above (λ k. f (taskAt tasks k)) e under over ∙ ap (λ (x : ℕ). base + x) (sum-first n tasks above f h)
 
 pub demand-first : (n : ℕ) (tasks : List Task) (i : ℕ) (above : ℕ → Bool) (w : ℕ) → n ≤ length tasks → i < n
     → taskAt tasks i .blocking + taskAt tasks i .execution + sum n above (λ j. interference (taskAt tasks j) w) ≡ demand (take n tasks) i above w

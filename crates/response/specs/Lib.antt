@@ -1,4 +1,4 @@
 pub mod Equation
 pub mod Agreement
 pub mod Demand
-pub mod Climb
+pub mod Leap

@@ -8,15 +8,22 @@ ghost use Rattle.taskset.specs.Rows.{maxPeriod, InRanges};
 ghost use Rattle.taskset.specs.Adding.{rows, isMade};
 ghost use Rattle.sets.specs.Marks.{marked};
 ghost use Rattle.response.specs.Equation.{ceil, interference, demand, windowOf, responseTime, SaysResponse};
-ghost use Rattle.response.specs.Climb.{rate, loadOf};
+ghost use Rattle.response.specs.Leap.{scale, partOf, boundOf};
 ghost use Rattle.response.specs.Agreement.{Bounds};
 use taskset::MAX_TASKS;
+use taskset::MAX_PERIOD;
 use taskset::Task;
 use taskset::TaskIndex;
 use taskset::TaskSet;
 
 // 2³²: a load of this many parts is the whole processor.
 const SCALE: u64 = 4294967296;
+
+// What a task adds to a bound, in parts of SCALE: once, and for each microsecond of the window.
+pub struct Part {
+    pub fixed: u64,
+    pub rate: u64,
+}
 
 // The response window of a task, or that none lies within the room there is.
 pub enum Window {
@@ -70,34 +77,89 @@ fn demand(set: TaskSet, task: TaskIndex, above: [bool; MAX_TASKS], w: u64) -> u6
     sum
 }
 
-// What a task adds to the load, in parts of SCALE, rounded down: nothing unless it is above.
-fn rate(above: bool, t: Task) -> u64
+// What a task adds to a bound on every window from w on: its rate, and that over its jitter, where what it brings at w does
+// not last until `reach`; else what it brings at w. Nothing unless it is above.
+fn part_at(above: bool, t: Task, w: u64, reach: u64) -> Part
     requires { ⌜ InRanges t ⌝ }
-    ensures { λ r. ⌜ r ≡ pick above (rate t) 0 ⌝ }
+    requires { ⌜ w ≤ maxPeriod ⌝ }
+    ensures { λ r. ⌜ r ≡ partOf above t w reach ⌝ }
 {
     if above {
-        return t.execution * SCALE / t.period;
+        let releases = ceil_div(w + t.jitter, t.period);
+        if releases * t.period - t.jitter < reach {
+            let rate = t.execution * SCALE / t.period;
+            return Part {
+                fixed: rate * t.jitter,
+                rate,
+            };
+        }
+        return Part {
+            fixed: releases * t.execution * SCALE,
+            rate: 0,
+        };
     }
-    0
+    Part { fixed: 0, rate: 0 }
 }
 
-// The load of the marked tasks.
-fn load(set: TaskSet, above: [bool; MAX_TASKS]) -> u64
+// The least v with fixed ≤ v × (SCALE − rate); where there is none, a number beyond every limit.
+fn bound(fixed: u64, rate: u64) -> u64
+    requires { ⌜ fixed + scale < 2 ^ 64 ⌝ }
+    ensures { λ r. ⌜ r ≡ boundOf fixed rate ⌝ }
+{
+    if SCALE <= rate {
+        return MAX_PERIOD + 1;
+    }
+    ceil_div(fixed, SCALE - rate)
+}
+
+// From bounds w and reach on every window, one that is no lower than reach.
+fn leap(set: TaskSet, task: TaskIndex, above: [bool; MAX_TASKS], w: u64, reach: u64) -> u64
     requires { ⌜ isMade set ≡ true ⌝ }
-    ensures { λ r. ⌜ r ≡ loadOf (rows set) (marked above) ⌝ }
+    requires { ⌜ task .0 < set .ntasks ⌝ }
+    requires { ⌜ w ≤ maxPeriod ⌝ }
+    requires { ⌜ Bounds (demand (rows set) (task .0) (marked above)) w ⌝ }
+    requires { ⌜ Bounds (demand (rows set) (task .0) (marked above)) reach ⌝ }
+    ensures { λ r. ⌜ reach ≤ r ⌝ }
+    ensures bounds { λ r. ⌜ Bounds (demand (rows set) (task .0) (marked above)) r ⌝ }
 {
     let tasks = set.tasks;
     let n = set.ntasks;
-    let mut sum = 0;
+    let i = task.0;
+    let own = tasks[i];
+    let mut fixed = (own.blocking + own.execution) * SCALE;
+    let mut rate = 0;
     let mut j = 0;
     while j < n {
-        sum += rate(above[j], tasks[j]);
+        let p = part_at(above[j], tasks[j], w, reach);
+        fixed += p.fixed;
+        rate += p.rate;
         j += 1;
     }
-    sum
+    let far = bound(fixed, rate);
+    if far < reach {
+        return reach;
+    }
+    far
 }
 
-// The window, climbed to from a start that no solution lies below.
+// Where the climb goes on from w, whose demand is `needed`: there, or by two leaps from there.
+fn next(set: TaskSet, task: TaskIndex, above: [bool; MAX_TASKS], w: u64, needed: u64, leaps: bool) -> u64
+    requires { ⌜ isMade set ≡ true ⌝ }
+    requires { ⌜ task .0 < set .ntasks ⌝ }
+    requires { ⌜ w ≤ maxPeriod ⌝ }
+    requires { ⌜ Bounds (demand (rows set) (task .0) (marked above)) w ⌝ }
+    requires { ⌜ Bounds (demand (rows set) (task .0) (marked above)) needed ⌝ }
+    ensures { λ r. ⌜ needed ≤ r ⌝ }
+    ensures bounds { λ r. ⌜ Bounds (demand (rows set) (task .0) (marked above)) r ⌝ }
+{
+    if leaps {
+        let far = leap(set, task, above, w, needed);
+        return leap(set, task, above, w, far);
+    }
+    needed
+}
+
+// The window, climbed to from a start that no solution lies below. Every fourth round leaps.
 fn climb(set: TaskSet, task: TaskIndex, above: [bool; MAX_TASKS], start: u64, room: u64) -> Window
     requires { ⌜ isMade set ≡ true ⌝ }
     requires { ⌜ task .0 < set .ntasks ⌝ }
@@ -107,6 +169,7 @@ fn climb(set: TaskSet, task: TaskIndex, above: [bool; MAX_TASKS], start: u64, ro
     ensures { λ r. ⌜ r ≡ windowOf (demand (rows set) (task .0) (marked above)) room ⌝ }
 {
     let mut w = start;
+    let mut round: u64 = 0;
     let window = loop {
         if room < w {
             break Window::Beyond;
@@ -115,7 +178,8 @@ fn climb(set: TaskSet, task: TaskIndex, above: [bool; MAX_TASKS], start: u64, ro
         if needed <= w {
             break Window::At(w);
         }
-        w = needed;
+        w = next(set, task, above, w, needed, round == 3);
+        round = (round + 1) % 4;
     };
     window
 }
@@ -136,14 +200,10 @@ pub fn response_time(
     let tasks = set.tasks;
     let i = task.0;
     let own = tasks[i];
-    let load = load(set, above);
     if limit < own.jitter {
         return Response::Late;
     }
-    if SCALE <= load {
-        return Response::Late;
-    }
-    let start = ceil_div((own.blocking + own.execution) * SCALE, SCALE - load);
+    let start = own.blocking + own.execution;
     let Window::At(w) = climb(set, task, above, start, limit - own.jitter) else {
         return Response::Late;
     };

@@ -67,18 +67,19 @@ sum-le (suc n) A f b h =
     rw suc-mul
     (add-le-add (sum-le n A f b (λ j l. h j (le-step l))) (term-mono (A n) true (f n) b (λ t. tt) (h n (le-refl (suc n)))))
 
-term-scaled : (a : Bool) (x y v k : ℕ) → (T a → v * x ≤ k * y) → v * pick a x 0 ≤ k * pick a y 0
-term-scaled true x y v k h = h tt
-term-scaled false x y v k h = le-of-eq (mul-zero v ∙ sym (mul-zero k))
+term-scaled : (a : Bool) (x y z v k : ℕ) → (T a → x + v * y ≤ k * z) → pick a x 0 + v * pick a y 0 ≤ k * pick a z 0
+term-scaled true x y z v k h = h tt
+term-scaled false x y z v k h = omega (arith, mul-zero v, mul-zero k)
 
--- where v · f ≤ k · g at each member, the sums stand so too
-pub sum-scaled : (n : ℕ) (A : ℕ → Bool) (f g : ℕ → ℕ) (v k : ℕ) → ((j : ℕ) → j < n → T (A j) → v * f j ≤ k * g j)
-    → v * sum n A f ≤ k * sum n A g
+-- where f + v · g ≤ k · h at each member, the sums stand so too
+pub sum-scaled : (n : ℕ) (A : ℕ → Bool) (f g h : ℕ → ℕ) (v k : ℕ) → ((j : ℕ) → j < n → T (A j) → f j + v * g j ≤ k * h j)
+    → sum n A f + v * sum n A g ≤ k * sum n A h
 unfolding sum
-sum-scaled zero A f g v k h = le-of-eq (mul-zero v ∙ sym (mul-zero k))
-sum-scaled (suc n) A f g v k h =
-    simp mul-add
-    (add-le-add (sum-scaled n A f g v k (λ j l. h j (le-step l))) (term-scaled (A n) (f n) (g n) v k (h n (le-refl (suc n)))))
+sum-scaled zero A f g h v k e = omega (arith, mul-zero v, mul-zero k)
+sum-scaled (suc n) A f g h v k e =
+    let below = sum-scaled n A f g h v k (λ j l. e j (le-step l)) in
+    let here = term-scaled (A n) (f n) (g n) (h n) v k (e n (le-refl (suc n))) in
+    simp mul-add (omega (arith, below, here))
 
 -- ---- the greatest f over the numbers below n that are in A, 0 where there is none
 

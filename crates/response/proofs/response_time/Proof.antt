@@ -5,9 +5,8 @@ use native.Mathlib.Omega.{arith}
 use borrow.Author.Needs.{needs}
 use Rattle.taskset.specs.Rows.{maxTasks, InRanges}
 use Rattle.taskset.specs.Exact.{passes-few, passes-row}
-use Rattle.sets.specs.Marks.{marked}
 use Rattle.response.specs.Equation.{taskAt, respond}
-use Rattle.response.specs.Climb.{late-by-jitter, late-by-load, start-positive, start-below, found-response}
+use Rattle.response.specs.Leap.{late-by-jitter, start-positive, start-below, found-response}
 use Rattle.response.specs.Agreement.{response-both, window-room}
 use Rattle.response.proofs.response_time.Statement.{statement}
 use Rattle.response.proofs.response_time.Tie as tie
@@ -23,53 +22,29 @@ own c = passes-row (c .args .set) (c .pre .0) (c .args .task .0) (c .pre .1 .0)
 -- ---- the needs
 
 mul-own : tie.Need-mul-own
-mul-own c = let h = few (c .before) in omega arith
+mul-own c = let h = few (c .before) in omega (arith, c .before .pre .1)
 
 array-copy-out-own : tie.Need-array-copy-out-own
-array-copy-out-own c = let h = few (c .before) in omega arith
-
-load-requires : tie.Need-load-requires
-load-requires c κs = search needs
+array-copy-out-own c = let h = few (c .before) in omega (arith, c .before .pre .1)
 
 returns : tie.Need-returns
 returns c =
-    let s = c .before .before .before .before .before in
+    let s = c .before .before .before .before in
     response-both _ _ _ _
     (late-by-jitter (s .args .set) (s .pre .0) (s .args .task .0) (s .pre .1 .0) _ (s .args .limit) (c .if1 .taken))
 
-returns-2 : tie.Need-returns-2
-returns-2 c =
-    let s = c .before .before .before .before .before .before in
-    response-both _ _ _ _
-    (late-by-load (s .args .set) (s .pre .0) (s .args .task .0) (s .pre .1 .0) _ (s .args .limit) _ (c .before .before .before .load .ensures) (c .if2 .taken))
-
-add-ceil-div : tie.Need-add-ceil-div
-add-ceil-div c = let r = own (c .before .before .before .before .before .before .before) in omega arith
-
-mul-ceil-div : tie.Need-mul-ceil-div
-mul-ceil-div c = let r = own (c .before .before .before .before .before .before .before) in omega arith
-
-sub-ceil-div : tie.Need-sub-ceil-div
-sub-ceil-div c = search needs
-
-ceil-div-requires : tie.Need-ceil-div-requires
-ceil-div-requires c κs = let r = own (c .before .before .before .before .before .before .before) in omega arith
+add-start : tie.Need-add-start
+add-start c = let r = own (c .before .before .before .before .before) in omega arith
 
 climb-requires : tie.Need-climb-requires
 climb-requires c κs =
-    let s = c .before .before .before .before .before .before .before .before .before in
-    let load = c .before .before .before .before .before .before .load in
-    let under = c .before .before .before .if2 .left in
-    let e = c .before .ceil-div .ensures in (
+    let s = c .before .before .before .before .before .before in (
       s .pre .0,
       (
         s .pre .1 .0,
         (
-          omega arith,
-          (
-            rw e (start-positive (s .args .set) (s .pre .0) (s .args .task .0) (s .pre .1 .0) (marked (s .args .above)) (load .result) under),
-            rw e (start-below (s .args .set) (s .pre .0) (s .args .task .0) (s .pre .1 .0) _ (load .result) (load .ensures) under),
-          ),
+          omega (arith, s .pre .1 .1),
+          (start-positive (s .args .set) (s .pre .0) (s .args .task .0) (s .pre .1 .0), start-below (s .args .set) (s .pre .0) (s .args .task .0) (s .pre .1 .0) _),
         ),
       ),
     )
@@ -80,22 +55,22 @@ enum-known-w c = search needs
 enum-told : tie.Need-enum-told
 enum-told c = search needs
 
-returns-3 : tie.Need-returns-3
-returns-3 c =
-    let s = c .before .before .before .before .before .before .before .before .before .before .before .before in
+returns-2 : tie.Need-returns-2
+returns-2 c =
+    let s = c .before .before .before .before .before .before .before .before .before in
     response-both _ _ _ _
     (ap (respond (taskAt (s .args .set .tasks) (s .args .task .0) .jitter)) (sym (c .enum-told .given .1))
     ∙ found-response (s .args .set) (s .pre .0) (s .args .task .0) (s .pre .1 .0) _ (s .args .limit) _ (c .before .before .climb .ensures))
 
-add-t18 : tie.Need-add-t18
-add-t18 c =
-    let r = own (c .before .before .before .before .before .before .before .before .before .before .before .before .before .before) in
+add-t16 : tie.Need-add-t16
+add-t16 c =
+    let r = own (c .before .before .before .before .before .before .before .before .before .before .before) in
     let h = window-room _ _ _ (sym (c .before .before .w .given .1) ∙ c .before .before .before .before .climb .ensures) in
     omega arith
 
-returns-4 : tie.Need-returns-4
-returns-4 c =
-    let s = c .before .before .before .before .before .before .before .before .before .before .before .before .before .before in
+returns-3 : tie.Need-returns-3
+returns-3 c =
+    let s = c .before .before .before .before .before .before .before .before .before .before .before in
     response-both _ _ _ _
     (ap (respond (taskAt (s .args .set .tasks) (s .args .task .0) .jitter)) (sym (c .before .before .w .given .1))
     ∙ found-response (s .args .set) (s .pre .0) (s .args .task .0) (s .pre .1 .0) _ (s .args .limit) _ (c .before .before .before .before .climb .ensures))
@@ -106,16 +81,11 @@ response-time-spec =
     (tie.spec
     mul-own
     array-copy-out-own
-    load-requires
     returns
-    returns-2
-    add-ceil-div
-    mul-ceil-div
-    sub-ceil-div
-    ceil-div-requires
+    add-start
     climb-requires
     enum-known-w
     enum-told
-    returns-3
-    add-t18
-    returns-4)
+    returns-2
+    add-t16
+    returns-3)

@@ -1,12 +1,12 @@
 -- What a core is, over any test that fewer rules can't break: infeasible, while without any one of its rules it is feasible;
 -- and empty exactly where no rules at all are infeasible. Assumes nothing.
-use mathlib.Core.Path.{_≡_, refl, sym, subst}
+use mathlib.Core.Path.{_≡_, refl, sym, subst, fun-ext}
 use mathlib.Core.Bool.{Bool, true, false}
 use mathlib.Core.Logic.{_↔_, ⊎-elim}
 use Prim.Native.Nat.{ℕ, zero, suc, _<_}
 use native.Mathlib.Nat.{not-suc-le-zero, le-of-suc-le-suc, eq-or-lt-of-le}
 use lib.Dec.{T, ltb→lt}
-use Rattle.sets.specs.Choice.{pick, true→T, false→refuted}
+use Rattle.sets.specs.Choice.{pick, true→T, false→refuted, refuted→false}
 use Rattle.sets.specs.Bounded.{Subset, without, without-still, without-other}
 use Rattle.verdict.specs.Core.{first, tried, leftAfter, coreOf}
 
@@ -71,3 +71,9 @@ module _ (feasible : (ℕ → Bool) → Bool) (m : ℕ) where
       λ empty f. core-infeasible all (antitone (coreOf feasible m) (λ j. false) (λ j h t. empty j t) f),
       λ hopeless j t. hopeless (antitone (λ j. false) (without (coreOf feasible m) j) (λ i h s. absurd s) (core-needed j t)),
     )
+
+    -- then there is nothing to try
+    pub core-hopeless : (T (feasible (λ j. false)) → ⊥) → (λ j. false) ≡ coreOf feasible m
+    core-hopeless hopeless =
+        let all : T (feasible (first m)) → ⊥ = λ f. hopeless (antitone (λ j. false) (first m) (λ j h t. absurd t) f) in
+        fun-ext (λ j. sym (refuted→false (coreOf feasible m j) (core-empty all .1 hopeless j)))

@@ -79,8 +79,8 @@ fn try_rule(set: TaskSet, cut: Cut, k: usize) -> Cut
     Cut { marks, stuck }
 }
 
-// The core of a set, from where the search with every rule in play got stuck.
-fn core(set: TaskSet, stuck: Assignment) -> [bool; MAX_RULES]
+// The rules that stay when each is tried, from where the search with every rule in play got stuck.
+fn cut_down(set: TaskSet, stuck: Assignment) -> [bool; MAX_RULES]
     requires { ⌜ isMade set ≡ true ⌝ }
     requires { ⌜ Searched (lists set) (first (set .nrules)) stuck ⌝ }
     ensures { λ r. ⌜ marked r ≡ coreOf (feasible (problem (lists set))) (set .nrules) ⌝ }
@@ -94,6 +94,20 @@ fn core(set: TaskSet, stuck: Assignment) -> [bool; MAX_RULES]
         k += 1;
     }
     cut.marks
+}
+
+// The core of a set, from where the search with every rule in play got stuck: empty where it gets stuck without rules too.
+fn core(set: TaskSet, stuck: Assignment) -> [bool; MAX_RULES]
+    requires { ⌜ isMade set ≡ true ⌝ }
+    requires { ⌜ Searched (lists set) (first (set .nrules)) stuck ⌝ }
+    ensures { λ r. ⌜ marked r ≡ coreOf (feasible (problem (lists set))) (set .nrules) ⌝ }
+{
+    let none = [false; MAX_RULES];
+    let bare = resume(set, none, stuck);
+    if bare.free == 0 {
+        return cut_down(set, stuck);
+    }
+    none
 }
 
 // Refusals 14 and 13, then the verdict.

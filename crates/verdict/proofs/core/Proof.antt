@@ -1,67 +1,47 @@
--- `verdict::core` meets its contract: what is left after the first k rules were tried. Assumes nothing.
+-- `verdict::core` meets its contract. Assumes nothing.
 use mathlib.Core.Path.{_≡_, sym, ap, subst, _∙_}
-use mathlib.Core.Bool.{Bool}
-use Prim.Native.Nat.{ℕ, _-_, _≤_}
+use mathlib.Core.Bool.{Bool, false}
+use Prim.Native.Nat.{ℕ}
 use native.Mathlib.Omega.{arith}
-use Rattle.sets.specs.Marks.{marked}
+use borrow.Author.Needs.{needs}
+use lib.Dec.{T}
+use lib.ListN.{length-map}
+use Rattle.sets.specs.Marks.{marked-none}
 use Rattle.taskset.specs.Rows.{maxRules}
 use Rattle.taskset.specs.Calls.{lists}
-use Rattle.taskset.specs.Exact.{passes-few-rules}
+use Rattle.taskset.specs.Exact.{Sized, passes-counts, passes-sound}
 use Rattle.assignment.specs.Audsley.{feasible}
 use Rattle.assignment.specs.Preemptive.{problem}
-use Rattle.assignment.specs.Levels.{Searched}
-use Rattle.verdict.specs.Core.{leftAfter}
-use Rattle.verdict.specs.Cutting.{left-none, left-next}
+use Rattle.verdict.specs.Core.{coreOf}
+use Rattle.verdict.specs.Cutting.{searched-free, went-through, none-left}
 use Rattle.verdict.proofs.core.Statement.{statement}
 use Rattle.verdict.proofs.core.Tie as tie
 
-abbrev Inv-loop : tie.InvT-loop
-Inv-loop set m cut₀ k₀ cut k =
-    (k ≤ m) × (marked (cut .marks) ≡ leftAfter (feasible (problem (lists set))) m k) × Searched (lists set) (marked (cut .marks)) (cut .stuck)
+sized : (c : tie.Start) → Sized (c .args .set)
+sized c =
+    (sym (length-map (c .args .set .tasks) _) ∙ c .good .0 .1 .1 .0 .1 .0 .1, sym (length-map (c .args .set .rules) _) ∙ c .good .0 .1 .1 .1 .1 .0 .1 .0 .1)
 
-abbrev μ-loop : tie.MeasureT-loop
-μ-loop set m cut₀ k₀ cut k = m - k
+resume-requires : tie.Need-resume-requires
+resume-requires c κs =
+    (c .pre .0, omega (arith, passes-counts (c .args .set) (sized c) (c .pre .0) .0, searched-free _ _ _ (c .pre .1)))
 
-few : (c : tie.Start Inv-loop μ-loop) → c .args .set .nrules ≤ maxRules
-few c = passes-few-rules (c .args .set) (c .pre .0)
+cut-down-requires : tie.Need-cut-down-requires
+cut-down-requires c κs = search needs
 
-first-requires : tie.Need-first-requires Inv-loop μ-loop
-first-requires c κs = few c
+returns : tie.Need-returns
+returns c = search needs
 
-loop-holds : tie.Need-loop-holds Inv-loop μ-loop
-loop-holds c =
-    let s = c .before in (
-      omega arith,
-      c .first .ensures ∙ left-none _ _,
-      subst (λ (f : ℕ → Bool). Searched (lists (s .args .set)) f (s .args .stuck)) (sym (c .first .ensures)) (s .pre .1),
-    )
-
-try-rule-requires : tie.Need-try-rule-requires Inv-loop μ-loop
-try-rule-requires c κs =
+-- stuck without rules: they are infeasible, and the core is empty
+returns-2 : tie.Need-returns-2
+returns-2 c =
     let s = c .before .before .before in
-    (s .pre .0, (omega (arith, few s), c .before .loop .inv .2))
-
-add-k : tie.Need-add-k Inv-loop μ-loop
-add-k c = omega (arith, few (c .before .before .before .before))
-
-loop-less : tie.Need-loop-less Inv-loop μ-loop
-loop-less c = omega arith
-
-loop-again : tie.Need-loop-again Inv-loop μ-loop
-loop-again c =
-    let at = c .before .before .loop in (
-      omega arith,
-      left-next _ _ (at .k) _ _ (at .inv .1) (c .try-rule .ensures .0),
-      c .try-rule .ensures .1,
-    )
-
-returns : tie.Need-returns Inv-loop μ-loop
-returns c =
-    let at = c .before .before .loop in
-    let whole : at .k ≡ c .before .before .before .before .args .set .nrules = omega (arith, at .inv .0) in
-    at .inv .1 ∙ ap (leftAfter _ _) whole
+    let l = lists (s .args .set) in
+    let sound = passes-sound (s .args .set) (sized s) (s .pre .0) in
+    let none = marked-none maxRules in
+    let through = went-through l sound _ _ (λ j h t. absurd (subst (λ (f : ℕ → Bool). T (f j)) none t)) _ (s .pre .1) _ (c .before .before .resume .ensures) in
+    none
+    ∙ none-left l sound (λ t. c .if1 .left (omega (arith, through .1 (subst (λ (f : ℕ → Bool). T (feasible (problem l) f)) (sym none) t))))
+    ∙ ap (coreOf (feasible (problem l))) (passes-counts (s .args .set) (sized s) (s .pre .0) .1)
 
 pub core-spec : {M : Type 1} → statement M
-core-spec =
-    tie.close
-    (tie.spec Inv-loop μ-loop first-requires loop-holds try-rule-requires add-k loop-less loop-again returns)
+core-spec = tie.close (tie.spec resume-requires cut-down-requires returns returns-2)

@@ -1,6 +1,7 @@
 -- `verdict::try_rule` meets its contract: the search that got stuck goes on with one rule less. Assumes nothing.
-use mathlib.Core.Path.{_≡_, sym, _∙_}
-use mathlib.Core.Bool.{false}
+use mathlib.Core.Path.{_≡_, sym, subst, _∙_}
+use mathlib.Core.Bool.{Bool, false}
+use Prim.Native.Nat.{ℕ}
 use mathlib.Core.Logic.{_↔_}
 use native.Mathlib.Omega.{arith}
 use borrow.Author.Needs.{needs}
@@ -13,7 +14,7 @@ use Rattle.taskset.specs.Calls.{lists}
 use Rattle.taskset.specs.Exact.{Sized, passes-counts, passes-sound}
 use Rattle.assignment.specs.Audsley.{feasible}
 use Rattle.assignment.specs.Preemptive.{problem}
-use Rattle.verdict.specs.Cutting.{tried-stays, tried-goes, searched-free, went-on, went-through}
+use Rattle.verdict.specs.Cutting.{tried-stays, tried-goes, searched-free, went-on, went-through, less-fewer}
 use Rattle.verdict.proofs.try_rule.Statement.{statement}
 use Rattle.verdict.proofs.try_rule.Tie as tie
 
@@ -35,21 +36,23 @@ resume-requires c κs =
     (s .pre .0, omega (arith, passes-counts (s .args .set) (sized s) (s .pre .0) .0, searched-free _ _ _ (s .pre .1 .1)))
 
 -- every level gets filled exactly where the rules without k are feasible
-through : (c : tie.After-resume) → (c .resume .result .free ≡ 0) ↔ T (feasible (problem (lists (c .before .before .args .set))) (without (marked (c .before .before .args .cut .marks)) (c .before .before .args .k)))
+through : (c : tie.After-resume)
+    → (c .resume .result .free ≡ 0) ↔ T (feasible (problem (lists (c .before .before .args .set))) (without (marked (c .before .before .args .cut .marks)) (c .before .before .args .k)))
 through c =
     let s = c .before .before in
-    went-through (lists (s .args .set)) (passes-sound (s .args .set) (sized s) (s .pre .0)) (marked (s .args .cut .marks)) (s .args .k) (s .args .cut .stuck)
-    (s .pre .1 .1) _ (less s) _ (c .resume .ensures)
+    let l = lists (s .args .set) in
+    subst (λ (f : ℕ → Bool). (c .resume .result .free ≡ 0) ↔ T (feasible (problem l) f)) (less s)
+    (went-through l (passes-sound (s .args .set) (sized s) (s .pre .0)) _ _ (less-fewer _ _ _ (s .args .k) (less s)) _ (s .pre .1 .1) _ (c .resume .ensures))
 
 returns : tie.Need-returns
-returns c = (tried-stays _ _ _ (through (c .before .before) .0 (c .if1 .taken)), c .before .before .before .before .pre .1 .1)
+returns c = (tried-stays _ _ _ (through (c .before .before) .0 (omega arith)), c .before .before .before .before .pre .1 .1)
 
 returns-2 : tie.Need-returns-2
 returns-2 c =
     let s = c .before .before .before .before in (
-      less s ∙ tried-goes _ _ _ (λ t. c .if1 .left (through (c .before .before) .1 t)),
-      went-on (lists (s .args .set)) (passes-sound (s .args .set) (sized s) (s .pre .0)) (marked (s .args .cut .marks)) (s .args .k) (s .args .cut .stuck)
-          (s .pre .1 .1) _ (less s) _ (c .before .before .resume .ensures),
+      less s ∙ tried-goes _ _ _ (λ t. c .if1 .left (omega (arith, through (c .before .before) .1 t))),
+      went-on (lists (s .args .set)) (passes-sound (s .args .set) (sized s) (s .pre .0)) _ _ (less-fewer _ _ _ (s .args .k) (less s)) _ (s .pre .1 .1) _
+          (c .before .before .resume .ensures),
     )
 
 pub try-rule-spec : {M : Type 1} → statement M

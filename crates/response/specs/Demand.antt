@@ -82,7 +82,8 @@ sum-first n tasks above f h =
     (sum-cong n above (λ j. f (taskAt tasks j)) (λ j. f (taskAt (take n tasks) j)) (λ j l. ap f (sym (getD-take n tasks j blankTask l))))
 
 -- the total of a loop over them
-pub sum-first-end : (total base j n : ℕ) (tasks : List Task) (above : ℕ → Bool) (f : Task → ℕ) → total ≡ base + sum j above (λ k. f (taskAt tasks k))
+pub sum-first-end : (total base j n : ℕ) (tasks : List Task) (above : ℕ → Bool) (f : Task → ℕ)
+    → total ≡ base + sum j above (λ k. f (taskAt tasks k))
     → j ≤ n → n ≤ j → n ≤ length tasks → total ≡ base + sum (length (take n tasks)) above (λ k. f (taskAt (take n tasks) k))
 sum-first-end total base j n tasks above f e under over h =
     sum-end total base j n above (λ k. f (taskAt tasks k)) e under over ∙ ap (λ (x : ℕ). base + x) (sum-first n tasks above f h)

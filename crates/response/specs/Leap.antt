@@ -68,11 +68,13 @@ rate-le t v h =
     let e : q * (t .execution * scale) ≡ scale * (q * t .execution) = sym (mul-assoc q (t .execution) scale) ∙ mul-comm (q * t .execution) scale in
     omega arith
 
-part-le : (t : Task) (w reach v : ℕ) → 1 ≤ t .period → w ≤ v → fixedPart w reach t + v * ratePart w reach t ≤ scale * interference t v
+part-le : (t : Task) (w reach v : ℕ) → 1 ≤ t .period → w ≤ v
+    → fixedPart w reach t + v * ratePart w reach t ≤ scale * interference t v
 unfolding fixedPart ratePart interference
 part-le t w reach v h from = go (ends t w reach)
   where
-    go : (b : Bool) → pick b (rate t * t .jitter) (releases t w * t .execution * scale) + v * pick b (rate t) 0 ≤ scale * interference t v
+    go : (b : Bool)
+        → pick b (rate t * t .jitter) (releases t w * t .execution * scale) + v * pick b (rate t) 0 ≤ scale * interference t v
     go true = let l = rate-le t v h in omega (arith, l, mul-comm (rate t) (t .jitter))
     go false = let l = mul-le-mul-left scale (interference-mono t w v from) in omega (arith, l)
 

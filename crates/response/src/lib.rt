@@ -10,8 +10,8 @@ ghost use Rattle.sets.specs.Marks.{marked};
 ghost use Rattle.response.specs.Equation.{ceil, interference, demand, windowOf, responseTime, SaysResponse};
 ghost use Rattle.response.specs.Leap.{scale, partOf, boundOf};
 ghost use Rattle.response.specs.Agreement.{Bounds};
-use taskset::MAX_TASKS;
 use taskset::MAX_PERIOD;
+use taskset::MAX_TASKS;
 use taskset::Task;
 use taskset::TaskIndex;
 use taskset::TaskSet;
@@ -143,7 +143,14 @@ fn leap(set: TaskSet, task: TaskIndex, above: [bool; MAX_TASKS], w: u64, reach: 
 }
 
 // Where the climb goes on from w, whose demand is `needed`: there, or by two leaps from there.
-fn next(set: TaskSet, task: TaskIndex, above: [bool; MAX_TASKS], w: u64, needed: u64, leaps: bool) -> u64
+fn next(
+    set: TaskSet,
+    task: TaskIndex,
+    above: [bool; MAX_TASKS],
+    w: u64,
+    needed: u64,
+    leaps: bool,
+) -> u64
     requires { ⌜ isMade set ≡ true ⌝ }
     requires { ⌜ task .0 < set .ntasks ⌝ }
     requires { ⌜ w ≤ maxPeriod ⌝ }

@@ -1,5 +1,5 @@
 -- Sums and maxima over a marked set of the numbers below a bound. Assumes nothing.
-use mathlib.Core.Path.{_≡_, refl, sym, _∙_, subst}
+use mathlib.Core.Path.{_≡_, refl, sym, subst}
 use mathlib.Core.Bool.{Bool, true, false}
 use Prim.Native.Nat.{ℕ, zero, suc, _+_, _*_, _≤_, _<_, max}
 use native.Mathlib.Nat.{le-refl, le-step, le-trans, le-antisymm, le-of-eq, not-suc-le-zero, add-le-add, mul-zero, zero-mul, suc-mul, mul-add, max-le, le-max-left, le-max-right}

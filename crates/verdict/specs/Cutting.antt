@@ -1,5 +1,5 @@
 -- Cutting a core down: a search that got stuck goes on with one rule less, and what that says. Assumes nothing.
-use mathlib.Core.Path.{_≡_, refl, sym, ap, subst, _∙_}
+use mathlib.Core.Path.{_≡_, refl, ap, subst, _∙_}
 use mathlib.Core.Bool.{Bool, false}
 use mathlib.Core.Logic.{_↔_}
 use Prim.Native.Nat.{ℕ, _+_, _-_, _≤_}
@@ -77,5 +77,6 @@ pub less-fewer : (m : ℕ) (inPlay less : ℕ → Bool) (k : ℕ) → less ≡ w
 less-fewer m inPlay less k e j h t = without-still inPlay k j (subst (λ (f : ℕ → Bool). T (f j)) e t) .0
 
 -- without any: the core is empty where even that is infeasible
-pub none-left : (l : Lists) → Sound l → (T (feasible (problem l) (λ j. false)) → ⊥) → (λ j. false) ≡ coreOf (feasible (problem l)) (length (l .rules))
+pub none-left : (l : Lists) → Sound l → (T (feasible (problem l) (λ j. false)) → ⊥)
+    → (λ j. false) ≡ coreOf (feasible (problem l)) (length (l .rules))
 none-left l sound = core-hopeless (feasible (problem l)) (length (l .rules)) (λ B A sub. feasible-fewer (problem l) B A sub (lawful l sound))

@@ -70,13 +70,14 @@ fn try_rule(set: TaskSet, cut: Cut, k: usize) -> Cut
     ensures { λ r. ⌜ marked (r .marks) ≡ tried (feasible (problem (lists set))) (marked (cut .marks)) k ⌝ }
     ensures searched { λ r. ⌜ Searched (lists set) (marked (r .marks)) (r .stuck) ⌝ }
 {
-    let mut marks = cut.marks;
-    marks[k] = false;
-    let stuck = resume(set, marks, cut.stuck);
+    let marks = cut.marks;
+    let mut less = marks;
+    less[k] = false;
+    let stuck = resume(set, less, cut.stuck);
     if stuck.free == 0 {
         return cut;
     }
-    Cut { marks, stuck }
+    Cut { marks: less, stuck }
 }
 
 // The rules that stay when each is tried, from where the search with every rule in play got stuck.
@@ -102,12 +103,12 @@ fn core(set: TaskSet, stuck: Assignment) -> [bool; MAX_RULES]
     requires { ⌜ Searched (lists set) (first (set .nrules)) stuck ⌝ }
     ensures { λ r. ⌜ marked r ≡ coreOf (feasible (problem (lists set))) (set .nrules) ⌝ }
 {
-    let none = [false; MAX_RULES];
-    let bare = resume(set, none, stuck);
+    let no_rules = [false; MAX_RULES];
+    let bare = resume(set, no_rules, stuck);
     if bare.free == 0 {
         return cut_down(set, stuck);
     }
-    none
+    no_rules
 }
 
 // Refusals 14 and 13, then the verdict.

@@ -3,7 +3,6 @@ use mathlib.Core.Path.{_≡_, sym, ap, subst, _∙_}
 use Prim.Native.Nat.{ℕ, _+_, _-_, _*_, _≤_, _<_}
 use native.Mathlib.Nat.{le-refl, zero-add}
 use native.Mathlib.Omega.{arith}
-use borrow.Author.Needs.{needs}
 use lib.ListN.{length, length-map}
 use Rattle.sets.specs.Sum.{sum, sum-start, sum-turn}
 use Rattle.sets.specs.Marks.{marked}

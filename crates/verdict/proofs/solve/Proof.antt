@@ -2,6 +2,7 @@
 use mathlib.Core.Path.{_≡_, sym, ap, subst, _∙_}
 use mathlib.Core.Bool.{Bool, true}
 use Prim.Native.Nat.{ℕ}
+use native.Mathlib.Omega.{arith}
 use borrow.Author.Needs.{needs}
 use borrow.Author.Tests.{not-true, not-false}
 use lib.ListN.{length, length-map}
@@ -43,7 +44,7 @@ returns c =
 returns-2 : tie.Need-returns-2
 returns-2 c =
     let s = c .before .before .before .before in
-    solving-explained (s .args .set) (sized s) _ (solving-13 (s .args .set) (made (c .before .before)) (c .if2 .taken))
+    solving-explained (s .args .set) (sized s) _ (solving-13 (s .args .set) (made (c .before .before)) (omega arith))
 
 first-requires : tie.Need-first-requires
 first-requires c κs = passes-few-rules _ (made (c .before .before))
@@ -58,7 +59,7 @@ returns-3 c =
     let l = lists (s .args .set) in
     let is-made = made (f .before .before .before) in
     solving-explained (s .args .set) (sized s) _
-    (gives-order l (passes-sound (s .args .set) (sized s) is-made) _ (s .args .set) _ (c .before .before .before .before .before .trial .ensures .0) (every f) (c .before .before .before .if3 .taken)
+    (gives-order l (passes-sound (s .args .set) (sized s) is-made) _ (s .args .set) _ (c .before .before .before .before .before .trial .ensures .0) (every f) (omega (arith, c .before .before .before .if3 .taken))
     ∙ solving-given (s .args .set) is-made (f .before .if2 .left))
 
 core-requires : tie.Need-core-requires

@@ -27,8 +27,8 @@ less c =
     let long : length (c .args .cut .marks) ≡ maxRules = sym (length-map (c .args .cut .marks) _) ∙ c .good .1 .0 .1 .1 .0 .1 .0 .1 in
     marked-without (c .args .cut .marks) (c .args .k) (omega (arith, long, c .pre .1 .0))
 
-array-write-marks : tie.Need-array-write-marks
-array-write-marks c = search needs
+array-write-less : tie.Need-array-write-less
+array-write-less c = search needs
 
 resume-requires : tie.Need-resume-requires
 resume-requires c κs =
@@ -56,4 +56,4 @@ returns-2 c =
     )
 
 pub try-rule-spec : {M : Type 1} → statement M
-try-rule-spec = tie.close (tie.spec array-write-marks resume-requires returns returns-2)
+try-rule-spec = tie.close (tie.spec array-write-less resume-requires returns returns-2)

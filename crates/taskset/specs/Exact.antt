@@ -7,7 +7,7 @@ use Prim.Native.Nat.{ℕ, suc, _+_, _-_, _≤_, _<_, suc-le-suc}
 use native.Mathlib.Nat.{zero-lt-suc}
 use native.Mathlib.Omega.{arith}
 use lib.Dec.{T, leb, ltb, eqb, eqb→eq, leb→le}
-use lib.ListN.{length, getD, take, replicate, length-append, length-take, length-replicate}
+use lib.ListN.{length, getD, take, replicate, length-append, length-take, length-replicate, length-map}
 use lib.Seq.{length-take-le, getD-take, append-snoc, ext-getD}
 use borrow.Author.Tests.{lt-ltb, ltb-true, ltb-false}
 use Rattle.sets.specs.Choice.{true→T, and-left, and-right}
@@ -32,6 +32,11 @@ made-passes s m =
 -- a value of the code's type has arrays of these sizes
 abbrev pub Sized : TaskSet → Type 0
 Sized s = (length (s .tasks) ≡ maxTasks) × (length (s .rules) ≡ maxRules)
+
+-- as the sizes are told of a parameter in the code
+pub sized-by : {A B : Type 0} (f : Task → A) (g : Rule → B) (s : TaskSet) → length (map f (s .tasks)) ≡ maxTasks
+    → length (map g (s .rules)) ≡ maxRules → Sized s
+sized-by f g s t r = (sym (length-map (s .tasks) f) ∙ t, sym (length-map (s .rules) g) ∙ r)
 
 blank-task : (t : Task) → T (taskFits false t) → t ≡ blankTask
 unfolding taskFits

@@ -10,7 +10,7 @@ use Rattle.sets.specs.Marks.{marked}
 use Rattle.taskset.specs.Rows.{maxTasks}
 use Rattle.taskset.specs.Adding.{rows}
 use Rattle.taskset.specs.Calls.{lists}
-use Rattle.taskset.specs.Exact.{Sized, passes-few, passes-counts}
+use Rattle.taskset.specs.Exact.{Sized, sized-by, passes-few, passes-counts}
 use Rattle.assignment.specs.declared.Levels.{Levels}
 use Rattle.assignment.specs.Filling.{chose, Reached, reached-first, reached-next, reached-stuck, reached-full}
 use Rattle.assignment.proofs.resume.Statement.{statement}
@@ -25,8 +25,7 @@ abbrev μ-loop : tie.MeasureT-loop
 μ-loop set marks levels₀ free₀ left₀ levels free left = free
 
 sized : (c : tie.Start Inv-loop μ-loop) → Sized (c .args .set)
-sized c =
-    (sym (length-map (c .args .set .tasks) _) ∙ c .good .0 .1 .1 .0 .1 .0 .1, sym (length-map (c .args .set .rules) _) ∙ c .good .0 .1 .1 .1 .1 .0 .1 .0 .1)
+sized c = sized-by _ _ (c .args .set) (c .good .0 .1 .1 .0 .1 .0 .1) (c .good .0 .1 .1 .1 .1 .0 .1 .0 .1)
 
 long : (c : tie.Start Inv-loop μ-loop) → length (c .args .from .left) ≡ maxTasks
 long c = sym (length-map (c .args .from .left) _) ∙ c .good .1 .1 .0 .1 .1 .1 .1 .0 .1 .0 .1

@@ -1,15 +1,13 @@
 -- `assignment::start` meets its contract. Assumes nothing.
-use mathlib.Core.Path.{sym, _∙_}
-use lib.ListN.{length-map}
+use mathlib.Core.Path.{sym}
 use Rattle.taskset.specs.Calls.{lists}
-use Rattle.taskset.specs.Exact.{Sized, passes-few, passes-counts}
+use Rattle.taskset.specs.Exact.{Sized, sized-by, passes-few, passes-counts}
 use Rattle.assignment.specs.Filling.{stands-none}
 use Rattle.assignment.proofs.start.Statement.{statement}
 use Rattle.assignment.proofs.start.Tie as tie
 
 sized : (c : tie.Start) → Sized (c .args .set)
-sized c =
-    (sym (length-map (c .args .set .tasks) _) ∙ c .good .0 .1 .1 .0 .1 .0 .1, sym (length-map (c .args .set .rules) _) ∙ c .good .0 .1 .1 .1 .1 .0 .1 .0 .1)
+sized c = sized-by _ _ (c .args .set) (c .good .0 .1 .1 .0 .1 .0 .1) (c .good .0 .1 .1 .1 .1 .0 .1 .0 .1)
 
 first-requires : tie.Need-first-requires
 first-requires c κs = passes-few (c .args .set) (c .pre)

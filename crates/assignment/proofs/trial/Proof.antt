@@ -1,18 +1,15 @@
 -- `assignment::trial` meets its contract. Assumes nothing.
-use mathlib.Core.Path.{sym, _∙_}
 use native.Mathlib.Omega.{arith}
 use borrow.Author.Needs.{needs}
-use lib.ListN.{length-map}
 use Rattle.sets.specs.Marks.{marked}
 use Rattle.taskset.specs.Calls.{lists}
-use Rattle.taskset.specs.Exact.{Sized, passes-counts, passes-sound}
+use Rattle.taskset.specs.Exact.{Sized, sized-by, passes-counts, passes-sound}
 use Rattle.assignment.specs.Filling.{resumes-assign, assign-decides}
 use Rattle.assignment.proofs.trial.Statement.{statement}
 use Rattle.assignment.proofs.trial.Tie as tie
 
 sized : (c : tie.Start) → Sized (c .args .set)
-sized c =
-    (sym (length-map (c .args .set .tasks) _) ∙ c .good .0 .1 .1 .0 .1 .0 .1, sym (length-map (c .args .set .rules) _) ∙ c .good .0 .1 .1 .1 .1 .0 .1 .0 .1)
+sized c = sized-by _ _ (c .args .set) (c .good .0 .1 .1 .0 .1 .0 .1) (c .good .0 .1 .1 .1 .1 .0 .1 .0 .1)
 
 start-requires : tie.Need-start-requires
 start-requires c κs = search needs

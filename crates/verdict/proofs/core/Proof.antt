@@ -5,11 +5,10 @@ use Prim.Native.Nat.{ℕ}
 use native.Mathlib.Omega.{arith}
 use borrow.Author.Needs.{needs}
 use lib.Dec.{T}
-use lib.ListN.{length-map}
 use Rattle.sets.specs.Marks.{marked-none}
 use Rattle.taskset.specs.Rows.{maxRules}
 use Rattle.taskset.specs.Calls.{lists}
-use Rattle.taskset.specs.Exact.{Sized, passes-counts, passes-sound}
+use Rattle.taskset.specs.Exact.{Sized, sized-by, passes-counts, passes-sound}
 use Rattle.assignment.specs.Audsley.{feasible}
 use Rattle.assignment.specs.Preemptive.{problem}
 use Rattle.verdict.specs.Core.{coreOf}
@@ -18,8 +17,7 @@ use Rattle.verdict.proofs.core.Statement.{statement}
 use Rattle.verdict.proofs.core.Tie as tie
 
 sized : (c : tie.Start) → Sized (c .args .set)
-sized c =
-    (sym (length-map (c .args .set .tasks) _) ∙ c .good .0 .1 .1 .0 .1 .0 .1, sym (length-map (c .args .set .rules) _) ∙ c .good .0 .1 .1 .1 .1 .0 .1 .0 .1)
+sized c = sized-by _ _ (c .args .set) (c .good .0 .1 .1 .0 .1 .0 .1) (c .good .0 .1 .1 .1 .1 .0 .1 .0 .1)
 
 resume-requires : tie.Need-resume-requires
 resume-requires c κs =

@@ -5,12 +5,12 @@ use Prim.Native.Nat.{ℕ}
 use native.Mathlib.Omega.{arith}
 use borrow.Author.Needs.{needs}
 use borrow.Author.Tests.{not-true, not-false}
-use lib.ListN.{length, length-map}
+use lib.ListN.{length}
 use Rattle.sets.specs.Marks.{marked}
 use Rattle.taskset.specs.Rows.{maxRules}
 use Rattle.taskset.specs.Adding.{rules, isMade}
 use Rattle.taskset.specs.Calls.{lists}
-use Rattle.taskset.specs.Exact.{Sized, passes-few-rules, passes-counts, passes-sound}
+use Rattle.taskset.specs.Exact.{Sized, sized-by, passes-few-rules, passes-counts, passes-sound}
 use Rattle.assignment.specs.Audsley.{feasible}
 use Rattle.assignment.specs.Preemptive.{problem}
 use Rattle.assignment.specs.Levels.{Searched}
@@ -22,8 +22,7 @@ use Rattle.verdict.proofs.solve.Statement.{statement}
 use Rattle.verdict.proofs.solve.Tie as tie
 
 sized : (c : tie.Start) → Sized (c .args .set)
-sized c =
-    (sym (length-map (c .args .set .tasks) _) ∙ c .good .0 .1 .1 .0 .1 .0 .1, sym (length-map (c .args .set .rules) _) ∙ c .good .0 .1 .1 .1 .1 .0 .1 .0 .1)
+sized c = sized-by _ _ (c .args .set) (c .good .0 .1 .1 .0 .1 .0 .1) (c .good .0 .1 .1 .1 .1 .0 .1 .0 .1)
 
 made : (c : tie.Else1) → isMade (c .before .before .args .set) ≡ true
 made c = sym (c .before .is-made .ensures .0) ∙ not-false _ (c .if1 .left)

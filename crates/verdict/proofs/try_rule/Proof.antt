@@ -11,7 +11,7 @@ use Rattle.sets.specs.Bounded.{without}
 use Rattle.sets.specs.Marks.{marked, marked-without}
 use Rattle.taskset.specs.Rows.{maxRules}
 use Rattle.taskset.specs.Calls.{lists}
-use Rattle.taskset.specs.Exact.{Sized, passes-counts, passes-sound}
+use Rattle.taskset.specs.Exact.{Sized, sized-by, passes-counts, passes-sound}
 use Rattle.assignment.specs.Audsley.{feasible}
 use Rattle.assignment.specs.Preemptive.{problem}
 use Rattle.verdict.specs.Cutting.{tried-stays, tried-goes, searched-free, went-on, went-through, less-fewer}
@@ -19,8 +19,7 @@ use Rattle.verdict.proofs.try_rule.Statement.{statement}
 use Rattle.verdict.proofs.try_rule.Tie as tie
 
 sized : (c : tie.Start) → Sized (c .args .set)
-sized c =
-    (sym (length-map (c .args .set .tasks) _) ∙ c .good .0 .1 .1 .0 .1 .0 .1, sym (length-map (c .args .set .rules) _) ∙ c .good .0 .1 .1 .1 .1 .0 .1 .0 .1)
+sized c = sized-by _ _ (c .args .set) (c .good .0 .1 .1 .0 .1 .0 .1) (c .good .0 .1 .1 .1 .1 .0 .1 .0 .1)
 
 less : (c : tie.Start) → marked (set (c .args .cut .marks) (c .args .k) false) ≡ without (marked (c .args .cut .marks)) (c .args .k)
 less c =

@@ -1,12 +1,11 @@
 -- `taskset::TaskSet::is_made` meets its contract. Assumes nothing.
-use mathlib.Core.Path.{_≡_, sym, _∙_}
+use mathlib.Core.Path.{_≡_}
 use mathlib.Core.Bool.{_&&_}
 use lib.Dec.{leb}
-use lib.ListN.{length-map}
 use borrow.Author.Needs.{needs}
 use Rattle.taskset.specs.Rows.{maxTasks, maxRules}
 use Rattle.taskset.specs.Adding.{isMade}
-use Rattle.taskset.specs.Exact.{Sized, passes-exact}
+use Rattle.taskset.specs.Exact.{Sized, sized-by, passes-exact}
 use Rattle.taskset.proofs.TaskSet.is_made.Statement.{statement}
 use Rattle.taskset.proofs.TaskSet.is_made.Tie as tie
 
@@ -17,10 +16,7 @@ rule-entries-requires : tie.Need-rule-entries-requires
 rule-entries-requires c κs = search needs
 
 sized : (c : tie.Start) → Sized (c .args .self)
-sized c = (
-  sym (length-map (c .args .self .tasks) _) ∙ c .good .0 .1 .1 .0 .1 .0 .1,
-  sym (length-map (c .args .self .rules) _) ∙ c .good .0 .1 .1 .1 .1 .0 .1 .0 .1,
-)
+sized c = sized-by _ _ (c .args .self) (c .good .0 .1 .1 .0 .1 .0 .1) (c .good .0 .1 .1 .1 .1 .0 .1 .0 .1)
 
 equation : (c : tie.After-rule-entries) → let s = c .before .before .before .before .args .self in leb (s .ntasks) maxTasks && leb (s .nrules) maxRules && c .before .task-entries .result && c .rule-entries .result ≡ isMade s
 unfolding isMade

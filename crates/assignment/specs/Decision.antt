@@ -117,9 +117,9 @@ module _ (p : Problem) (inPlay : ℕ → Bool) where
   filled-count all (level i low h t f) =
       let n = p .tasks in
       let free = may-unassigned low i t in
-      let rest = without (unassigned p low) i in
-      let less = count-less n rest (unassigned p low) (λ j l s. without-still (unassigned p low) i j s .0) i h free (λ s. without-still (unassigned p low) i i s .1 refl) in
-      let but = count-but n rest (unassigned p low) i (λ j l s apart. without-other (unassigned p low) i j (λ e. apart (sym e)) s) in
+      let all = unassigned p low in
+      let less = count-less n (without all i) all (λ j l s. without-still all i j s .0) i h free (λ s. without-still all i i s .1 refl) in
+      let but = count-but n (without all i) all i (λ j l s apart. without-other all i j (λ e. apart (sym e)) s) in
       omega (arith, filled-count low f, ap (count n) (unassigned-cons p low i))
 
   -- each level was given to a task that might take it
@@ -174,7 +174,8 @@ module _ (p : Problem) (inPlay : ℕ → Bool) where
         lower j t =
             let free = unassigned-is p (drop k order) j t in
             lt→ltb (rank order j) (rank order (getD order k 0))
-            (⊎-elim (λ l. omega (arith, at, l)) (λ g. absurd (free .1 (rank-drop order k j (filled-order .every j (free .0)) g))) (lt-or-le (rank order j) k))
+            (⊎-elim (λ l. omega (arith, at, l)) (λ g. absurd (free .1 (rank-drop order k j (filled-order .every j (free .0)) g)))
+            (lt-or-le (rank order j) k))
 
     passes-at : (k : ℕ) → k < length order → T (p .passes (getD order k 0) (before order (getD order k 0)))
     passes-at k h =
@@ -239,7 +240,8 @@ module _ (p : Problem) (inPlay : ℕ → Bool) where
         under j h t =
             let still = without-still (unassigned p low) i j t in
             lt→ltb (rank order j) (rank order i)
-            (⊎-elim (λ e. absurd (still .1 (ap (λ (q : ℕ). getD order q 0) (sym e) ∙ getD-rank order j (free-at j (still .0) .0)))) (λ l. omega (arith, at, l))
+            (⊎-elim (λ e. absurd (still .1 (ap (λ (q : ℕ). getD order q 0) (sym e) ∙ getD-rank order j (free-at j (still .0) .0))))
+            (λ l. omega (arith, at, l))
             (eq-or-lt-of-le (last j (still .0))))
 
     some-may : (i : ℕ) → T (unassigned p low i) → (j : ℕ) × (j < p .tasks) × T (mayTake p inPlay (unassigned p low) j)
@@ -297,7 +299,8 @@ module _ (p : Problem) (inPlay : ℕ → Bool) where
   unfolding feasible
   feasible-exactly lawful =
       let d = fill-decides lawful (p .tasks) [] (omega arith) empty in
-      (λ t. d .0 (eqb→eq (length (assign p inPlay)) (p .tasks) t), λ s. true→T (eqb (length (assign p inPlay)) (p .tasks)) (eq-eqb (length (assign p inPlay)) (p .tasks) (d .1 s)))
+      let levels = length (assign p inPlay) in
+      (λ t. d .0 (eqb→eq levels (p .tasks) t), λ s. true→T (eqb levels (p .tasks)) (eq-eqb levels (p .tasks) (d .1 s)))
 
 -- ---- fewer rules in play
 

@@ -31,7 +31,9 @@ pub lowest-none : {A : Type 0} (n : ℕ) (d : A) → n ≤ maxTasks → replicat
 lowest-none n d h =
     let whole : maxTasks ≡ n + (maxTasks - n) = omega arith in
     let all : n - 0 ≡ n = omega arith in
-    ap (λ (m : ℕ). replicate m d) whole ∙ sym (replicate-append-replicate n (maxTasks - n) d) ∙ ap (λ (m : ℕ). replicate m d ++ replicate (maxTasks - n) d) (sym all)
+    ap (λ (m : ℕ). replicate m d) whole
+    ∙ sym (replicate-append-replicate n (maxTasks - n) d)
+    ∙ ap (λ (m : ℕ). replicate m d ++ replicate (maxTasks - n) d) (sym all)
 
 set-replicate : {A : Type 0} (k : ℕ) (d x : A) (ys : List A) → set (replicate (suc k) d ++ ys) k x ≡ replicate k d ++ x ∷ ys
 set-replicate zero d x ys = refl
@@ -70,8 +72,12 @@ module _ (n : ℕ) (offers : ℕ → Response) where
           → option Nobody (λ i. Takes (index i) (time (offers i))) o ≡ Takes t r
           → (t .0 < n) × (greatest n (λ i. isWithin (offers i)) ≡ some (t .0)) × (r ≡ time (offers (t .0))) × T (isWithin (offers (t .0)))
       go o f (found i g) e =
-          let same : i ≡ t .0 = ap who e in
-          (omega (arith, same, g .below), f ∙ ap some same, sym (ap theirs e) ∙ ap (λ (j : ℕ). time (offers j)) same, subst (λ (j : ℕ). T (isWithin (offers j))) same (g .passes))
+          let same : i ≡ t .0 = ap who e in (
+            omega (arith, same, g .below),
+            f ∙ ap some same,
+            sym (ap theirs e) ∙ ap (λ (j : ℕ). time (offers j)) same,
+            subst (λ (j : ℕ). T (isWithin (offers j))) same (g .passes),
+          )
       go o f (nothing out) e = absurd (subst someone (sym e) tt)
 
   pub chose-nobody : chosen n offers ≡ Nobody → greatest n (λ i. isWithin (offers i)) ≡ none
@@ -132,10 +138,15 @@ module _ (l : Lists) (inPlay : ℕ → Bool) (low : List ℕ) where
     offers = offer (l .tasks) readies (marked (a .left))
 
     offers-are : offers ≡ offer (l .tasks) (ready (l .rules) inPlay free) free
-    offers-are = ap (λ (f : ℕ → Bool). offer (l .tasks) f (marked (a .left))) is-ready ∙ ap (λ (f : ℕ → Bool). offer (l .tasks) (ready (l .rules) inPlay f) f) (stands .left)
+    offers-are =
+        ap (λ (f : ℕ → Bool). offer (l .tasks) f (marked (a .left))) is-ready
+        ∙ ap (λ (f : ℕ → Bool). offer (l .tasks) (ready (l .rules) inPlay f) f) (stands .left)
 
     may : greatest m (λ i. isWithin (offers i)) ≡ greatest n (mayTake (problem l) inPlay free)
-    may = ap (λ (k : ℕ). greatest k (λ i. isWithin (offers i))) count ∙ ap (λ (f : ℕ → Response). greatest n (λ i. isWithin (f i))) offers-are ∙ ap (greatest n) offers-may
+    may =
+        ap (λ (k : ℕ). greatest k (λ i. isWithin (offers i))) count
+        ∙ ap (λ (f : ℕ → Response). greatest n (λ i. isWithin (f i))) offers-are
+        ∙ ap (greatest n) offers-may
 
     -- the choice is made by the level's own offers, and there is room for it
     room : suc (a .free - 1) + length low ≡ n
@@ -159,10 +170,18 @@ module _ (l : Lists) (inPlay : ℕ → Bool) (low : List ℕ) where
     step-taken t r e =
         let c = chose m offers t r e in
         record {
-          order = ap (λ (xs : List TaskIndex). set xs (a .free - 1) t) (stands .order) ∙ lowest-set n (a .free - 1) (index 0) t (map index low) (omega (arith, room, length-map low index));
-          times = ap (λ (xs : List ℕ). set xs (a .free - 1) r) (stands .times) ∙ lowest-set n (a .free - 1) 0 r (responses l low) (omega (arith, room, responses-length l low)) ∙ ap (λ (q : ℕ). lowest n 0 (q ∷ responses l low)) (c .2 ∙ own t (c .3));
+          order =
+              ap (λ (xs : List TaskIndex). set xs (a .free - 1) t) (stands .order)
+              ∙ lowest-set n (a .free - 1) (index 0) t (map index low) (omega (arith, room, length-map low index));
+          times =
+              ap (λ (xs : List ℕ). set xs (a .free - 1) r) (stands .times)
+              ∙ lowest-set n (a .free - 1) 0 r (responses l low) (omega (arith, room, responses-length l low))
+              ∙ ap (λ (q : ℕ). lowest n 0 (q ∷ responses l low)) (c .2 ∙ own t (c .3));
           free = omega (arith, stands .free);
-          left = marked-without (a .left) (t .0) (omega (arith, c .0, count, few, long)) ∙ ap (λ (f : ℕ → Bool). without f (t .0)) (stands .left) ∙ sym (unassigned-cons (problem l) low (t .0));
+          left =
+              marked-without (a .left) (t .0) (omega (arith, c .0, count, few, long))
+              ∙ ap (λ (f : ℕ → Bool). without f (t .0)) (stands .left)
+              ∙ sym (unassigned-cons (problem l) low (t .0));
         }
 
     pub step-fill : (t : TaskIndex) (r : ℕ) → chosen m offers ≡ Takes t r

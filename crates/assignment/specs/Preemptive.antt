@@ -29,6 +29,7 @@ MeetsDeadline tasks i above = (w : ℕ) × IsWindow (demand tasks i above) w × 
 abbrev pub ValidOrder : Lists → (ℕ → Bool) → List ℕ → Type 0
 ValidOrder l inPlay order = Valid (length (l .tasks)) (l .rules) (MeetsDeadline (l .tasks)) inPlay order
 
+-- there is one
 abbrev pub SomeOrder : Lists → (ℕ → Bool) → Type 0
 SomeOrder l inPlay = (order : List ℕ) × ValidOrder l inPlay order
 

@@ -91,38 +91,42 @@ rate-part-le t w reach r = go (ends t w reach)
     go true = rate-whole t r
     go false = omega arith
 
--- the steps of a part
-module _ (t : Task) (r : InRanges t) (w : ℕ) (short : w ≤ maxPeriod) (q : ℕ) (e : q ≡ releases t w) where
-  pub spans-le : q * t .period ≤ 3 * maxPeriod
-  spans-le = rw e (omega (arith, div-mul-le-self (w + t .jitter + (t .period - 1)) (t .period), r .period, r .jitter))
-
-  pub spans-jitter : t .jitter ≤ q * t .period
-  spans-jitter = rw e (omega (arith, ceil-above (w + t .jitter) (t .period) (r .period .0)))
-
-  pub brings-le : q * t .execution ≤ 3 * maxPeriod
-  unfolding interference
-  brings-le = rw e (omega (arith, interference-le t w r))
-
+-- a count of the releases, and what follows for the steps of a part
+pub record Counted (t : Task) (w q : ℕ) : Type 0 where
+  pub exact : q ≡ releases t w
+  pub spans : q * t .period ≤ 3 * maxPeriod
+  pub past-jitter : t .jitter ≤ q * t .period
+  pub brings : q * t .execution ≤ 3 * maxPeriod
   pub over-jitter : rate t * t .jitter ≤ scale * maxPeriod
-  over-jitter = let small : t .jitter ≤ maxPeriod = omega (arith, r .jitter, r .period) in mul-le-mul (rate-whole t r) small
 
-  pub part-ends : (above : Bool) (reach : ℕ) → above ≡ true → q * t .period - t .jitter < reach
-      → record { fixed = rate t * t .jitter; rate = rate t } ≡ partOf above t w reach
-  unfolding fixedPart ratePart
-  part-ends above reach a h = rw (a, lt-ltb (releases t w * t .period - t .jitter) reach (rw e at h))
+pub counted : (t : Task) → InRanges t → (w : ℕ) → w ≤ maxPeriod → (q : ℕ) → q ≡ releases t w → Counted t w q
+unfolding interference
+counted t r w short q e =
+    record {
+      exact = e;
+      spans = rw e (omega (arith, div-mul-le-self (w + t .jitter + (t .period - 1)) (t .period), r .period, r .jitter));
+      past-jitter = rw e (omega (arith, ceil-above (w + t .jitter) (t .period) (r .period .0)));
+      brings = rw e (omega (arith, interference-le t w r));
+      over-jitter = let small : t .jitter ≤ maxPeriod = omega (arith, r .jitter, r .period) in mul-le-mul (rate-whole t r) small;
+    }
 
-  pub part-lasts : (above : Bool) (reach : ℕ) → above ≡ true → reach ≤ q * t .period - t .jitter
-      → record { fixed = q * t .execution * scale; rate = 0 } ≡ partOf above t w reach
+module _ (t : Task) (w q : ℕ) (c : Counted t w q) (above : Bool) (reach : ℕ) (on : above ≡ true) where
+  pub part-ends : q * t .period - t .jitter < reach → record { fixed = rate t * t .jitter; rate = rate t } ≡ partOf above t w reach
   unfolding fixedPart ratePart
-  part-lasts above reach a h = rw (a, le-ltb (releases t w * t .period - t .jitter) reach (rw e at h), e)
+  part-ends h = rw (on, lt-ltb (releases t w * t .period - t .jitter) reach (rw (c .exact) at h))
+
+  pub part-lasts : reach ≤ q * t .period - t .jitter → record { fixed = q * t .execution * scale; rate = 0 } ≡ partOf above t w reach
+  unfolding fixedPart ratePart
+  part-lasts h = rw (on, le-ltb (releases t w * t .period - t .jitter) reach (rw (c .exact) at h), c .exact)
 
 pub fixed-le : (t : Task) (w reach : ℕ) → InRanges t → w ≤ maxPeriod → fixedPart w reach t ≤ 3 * maxPeriod * scale
-unfolding fixedPart interference
-fixed-le t w reach r short = go (ends t w reach)
+unfolding fixedPart
+fixed-le t w reach r short = go (ends t w reach) (counted t r w short (releases t w) refl)
   where
-    go : (b : Bool) → pick b (rate t * t .jitter) (releases t w * t .execution * scale) ≤ 3 * maxPeriod * scale
-    go true = omega (arith, over-jitter t r w short (releases t w) refl)
-    go false = mul-le-mul-right scale (brings-le t r w short (releases t w) refl)
+    go : (b : Bool) → Counted t w (releases t w)
+        → pick b (rate t * t .jitter) (releases t w * t .execution * scale) ≤ 3 * maxPeriod * scale
+    go true c = omega (arith, c .over-jitter)
+    go false c = mul-le-mul-right scale (c .brings)
 
 pub part-none : (above : Bool) (t : Task) (w reach : ℕ) → above ≡ false → record { fixed = 0; rate = 0 } ≡ partOf above t w reach
 part-none above t w reach a = rw a
@@ -140,7 +144,9 @@ module _ (n j : ℕ) (tasks : List Task) (above : ℕ → Bool) (w reach : ℕ) 
     (few : n ≤ maxTasks) (short : w ≤ maxPeriod) (h : j ≤ n) where
   pub fixed-sum : sum j above (λ k. fixedPart w reach (taskAt tasks k)) ≤ maxTasks * (3 * maxPeriod * scale)
   fixed-sum =
-      le-trans (sum-le j above (λ k. fixedPart w reach (taskAt tasks k)) (3 * maxPeriod * scale) (λ k l t. fixed-le (taskAt tasks k) w reach (rows k (lt-of-lt-of-le l h)) short))
+      le-trans
+      (sum-le j above (λ k. fixedPart w reach (taskAt tasks k)) (3 * maxPeriod * scale)
+      (λ k l t. fixed-le (taskAt tasks k) w reach (rows k (lt-of-lt-of-le l h)) short))
       (mul-le-mul-right (3 * maxPeriod * scale) (le-trans h few))
 
   pub rate-sum : sum j above (λ k. ratePart w reach (taskAt tasks k)) ≤ maxTasks * scale

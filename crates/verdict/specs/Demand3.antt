@@ -1,5 +1,5 @@
--- Demand 3, sentence by sentence: what an answer says about the reference model's lists. The theorem is in `Theorem`, and the
--- contract of `replay` has it for the code. Assumes nothing.
+-- Demand 3, sentence by sentence: what an answer says about the reference model's lists. `demand-3` in `Theorem`
+-- proves it for every list of calls, and the contract of `replay` has it for the code. Assumes nothing.
 use mathlib.Core.Path.{_≡_}
 use mathlib.Core.Bool.{Bool, true, false}
 use mathlib.Core.List.{List, map}

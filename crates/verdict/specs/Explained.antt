@@ -31,7 +31,7 @@ use Rattle.verdict.specs.declared.Answer.the-variants.{Refused, Order, C
 use Rattle.verdict.specs.declared.Solved.{Solved}
 use Rattle.verdict.specs.Core.{first, coreOf}
 use Rattle.verdict.specs.CoreLaws.{core-rules, core-infeasible, core-needed, core-empty}
-use Rattle.verdict.specs.Verdict.{ordered, core, responsesIn, decided, verdictOn, given, solving}
+use Rattle.verdict.specs.Verdict.{ordered, core, responsesIn, verdictBy, verdictOn, given, solving}
 use Rattle.verdict.specs.Demand3.{everyRule, noRule, orderGiven, coreGiven, Demand3, Responses, Explains}
 use Rattle.verdict.specs.Solving.{assign-valid, solving-given}
 
@@ -99,15 +99,19 @@ module _ (l : Lists) (sound : Sound l) (s : TaskSet) where
           empty = λ e. absurd (order-not-core e);
         }
 
+    -- the equation gives r for task i in an order
+    abbrev SaysAt : List ℕ → ℕ → ℕ → Type 0
+    SaysAt o i r = SaysResponse (l .tasks) i (before o i) (taskAt (l .tasks) i .deadline) (Within r)
+
     -- a response within the deadline is what the equation says
     says : (i : ℕ) → T (isWithin (responseAt (l .tasks) i (before order i)))
-        → SaysResponse (l .tasks) i (before order i) (taskAt (l .tasks) i .deadline) (Within (time (responseAt (l .tasks) i (before order i))))
+        → SaysAt order i (time (responseAt (l .tasks) i (before order i)))
     says i t =
         go (responseAt (l .tasks) i (before order i)) t
         (response-says (demand (l .tasks) i (before order i)) (taskAt (l .tasks) i .jitter) (taskAt (l .tasks) i .deadline))
       where
         go : (r : Response) → T (isWithin r) → SaysResponse (l .tasks) i (before order i) (taskAt (l .tasks) i .deadline) r
-            → SaysResponse (l .tasks) i (before order i) (taskAt (l .tasks) i .deadline) (Within (time r))
+            → SaysAt order i (time r)
         go (Within r) t h = h
         go Late t h = absurd t
 
@@ -119,8 +123,8 @@ module _ (l : Lists) (sound : Sound l) (s : TaskSet) where
         let i = getD order k 0 in
         let time-at = pad-used maxTasks 0 (responsesIn l order) k (omega (arith, here, length-map order (λ j. time (responseAt (l .tasks) j (before order j)))))
         ∙ map-at (λ j. time (responseAt (l .tasks) j (before order j))) order k 0 0 here in
-        subst (λ (o : List ℕ). SaysResponse (l .tasks) (getD o k 0) (before o (getD o k 0)) (taskAt (l .tasks) (getD o k 0) .deadline) (Within (getD (answer .responses) k 0))) (sym handed)
-        (subst (λ (r : ℕ). SaysResponse (l .tasks) i (before order i) (taskAt (l .tasks) i .deadline) (Within r)) (sym time-at)
+        subst (λ (o : List ℕ). SaysAt o (getD o k 0) (getD (answer .responses) k 0)) (sym handed)
+        (subst (λ (r : ℕ). SaysAt order i r) (sym time-at)
         (says i (meets-exactly (l .tasks) i (before order i) .1 (v .meets i (v .isOrder .only k here)))))
 
   -- ---- a core
@@ -169,7 +173,7 @@ module _ (l : Lists) (sound : Sound l) (s : TaskSet) where
   verdict-explained = go (test (first m)) refl
     where
       go : (b : Bool) → test (first m) ≡ b
-          → Demand3 l (given s (decided l b (assign (problem l) (first m)) (coreOf test m))) × Responses l (given s (decided l b (assign (problem l) (first m)) (coreOf test m)))
+          → let r = given s (verdictBy l b (assign (problem l) (first m)) (coreOf test m)) in Demand3 l r × Responses l r
       go true e = let yes = true→T (test (first m)) e in (order-demand3 yes, order-responses yes)
       go false e = let no = false→refuted (test (first m)) e in (core-demand3 no, core-responses no)
 

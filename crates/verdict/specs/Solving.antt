@@ -27,7 +27,7 @@ use Rattle.assignment.specs.Filling.{responses-length}
 use Rattle.verdict.specs.declared.Answer.the-variants.{Order, Core}
 use Rattle.verdict.specs.Core.{first, coreOf}
 use Rattle.verdict.specs.CoreLaws.{core-rules}
-use Rattle.verdict.specs.Verdict.{responsesIn, decided, verdictOn, refused, given, solving}
+use Rattle.verdict.specs.Verdict.{responsesIn, verdictBy, verdictOn, refused, given, solving}
 
 -- ---- refused
 
@@ -90,8 +90,8 @@ module _ (l : Lists) (sound : Sound l) (inPlay : ℕ → Bool) where
         ap₂ (λ (o : List TaskIndex) (r : List ℕ). record { answer = Order; order = o; responses = r; core = replicate maxRules false; set = s })
         (stands .order ∙ lowest-full (length (l .tasks)) (index 0) (map index order) (length-map order index ∙ long))
         (stands .times ∙ lowest-full (length (l .tasks)) 0 (responses l order) (responses-length l order ∙ long) ∙ ap (pad maxTasks 0) (responses-in long))
-        ∙ ap (λ (b : Bool). given s (decided l b order (coreOf (feasible (problem l)) (length (l .rules))))) (sym yes)
-        ∙ ap (λ (f : ℕ → Bool). given s (decided l (feasible (problem l) f) (assign (problem l) f) (coreOf (feasible (problem l)) (length (l .rules))))) e
+        ∙ ap (λ (b : Bool). given s (verdictBy l b order (coreOf (feasible (problem l)) (length (l .rules))))) (sym yes)
+        ∙ ap (λ (f : ℕ → Bool). given s (verdictBy l (feasible (problem l) f) (assign (problem l) f) (coreOf (feasible (problem l)) (length (l .rules))))) e
 
     pub gives-core : inPlay ≡ first (length (l .rules)) → (a .free ≡ 0 → ⊥) → (marks : List Bool) → length marks ≡ maxRules
         → marked marks ≡ coreOf (feasible (problem l)) (length (l .rules))
@@ -103,5 +103,5 @@ module _ (l : Lists) (sound : Sound l) (inPlay : ℕ → Bool) where
         ap (λ (c : List Bool). record { answer = Core; order = replicate maxTasks (index 0); responses = replicate maxTasks 0; core = c; set = s })
         (table-is maxRules m (coreOf (feasible (problem l)) m) marks long (sound .few-rules) f
         (λ k h. refuted→false (coreOf (feasible (problem l)) m k) (λ t. omega (arith, h, core-rules (feasible (problem l)) m m k t))))
-        ∙ ap (λ (b : Bool). given s (decided l b order (coreOf (feasible (problem l)) m))) (sym no)
-        ∙ ap (λ (f : ℕ → Bool). given s (decided l (feasible (problem l) f) (assign (problem l) f) (coreOf (feasible (problem l)) m))) e
+        ∙ ap (λ (b : Bool). given s (verdictBy l b order (coreOf (feasible (problem l)) m))) (sym no)
+        ∙ ap (λ (f : ℕ → Bool). given s (verdictBy l (feasible (problem l) f) (assign (problem l) f) (coreOf (feasible (problem l)) m))) e

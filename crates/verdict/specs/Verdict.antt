@@ -29,13 +29,15 @@ pub data Verdict : Type 0 where
 abbrev pub responsesIn : Lists → List ℕ → List ℕ
 responsesIn l order = map (λ i. time (responseAt (l .tasks) i (before order i))) order
 
-abbrev pub decided : Lists → Bool → List ℕ → (ℕ → Bool) → Verdict
-decided l found order left = pick found (ordered order (responsesIn l order)) (core (table (length (l .rules)) left))
+-- by whether an order was found
+abbrev pub verdictBy : Lists → Bool → List ℕ → (ℕ → Bool) → Verdict
+verdictBy l found order left = pick found (ordered order (responsesIn l order)) (core (table (length (l .rules)) left))
 
+-- with every rule in play: the order that the assignment finds, or the core
 unfoldable pub verdictOn : Lists → Verdict
 verdictOn l =
     let m = length (l .rules) in
-    decided l (feasible (problem l) (first m)) (assign (problem l) (first m)) (coreOf (feasible (problem l)) m)
+    verdictBy l (feasible (problem l) (first m)) (assign (problem l) (first m)) (coreOf (feasible (problem l)) m)
 
 -- ---- handed over
 
@@ -68,5 +70,6 @@ given s (core marks) =
       set = s;
     }
 
+-- 14 first, then 13
 unfoldable pub solving : TaskSet → Solved
 solving s = pick (isMade s) (pick (eqb (s .ntasks) 0) (refused s 13) (given s (verdictOn (lists s)))) (refused s 14)

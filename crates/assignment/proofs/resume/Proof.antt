@@ -77,12 +77,15 @@ loop-less c = omega arith
 loop-again : tie.Need-loop-again Inv-loop μ-loop
 loop-again c =
     let s = c .before .before .before .before .before .before .before .before .before .before in
-    let at = c .before .before .before .before .before .before .before .loop in (
+    let l = lists (s .args .set) in
+    let at = c .before .before .before .before .before .before .before .loop in
+    let left = set (at .left) (c .before .before .task .given .0 .0 .0) false in (
       omega (arith, at .inv .0),
       length-set (at .left) _ false ∙ at .inv .1,
-      subst (λ (levels : Levels). Reached (lists (s .args .set)) (marked (s .args .marks)) (s .args .from) (record { levels = levels; free = at .free - 1; left = set (at .left) (c .before .before .task .given .0 .0 .0) false }))
+      subst (λ (levels : Levels). Reached l (marked (s .args .marks)) (s .args .from) (record { levels = levels; free = at .free - 1; left = left }))
           (sym (c .fill-level .ensures))
-          (reached-next (lists (s .args .set)) (marked (s .args .marks)) (s .args .from) (record { levels = at .levels; free = at .free; left = at .left }) (at .inv .2) (omega (arith, few s, count s)) (at .inv .1) _ (count s) _
+          (reached-next l (marked (s .args .marks)) (s .args .from) (record { levels = at .levels; free = at .free; left = at .left }) (at .inv .2)
+          (omega (arith, few s, count s)) (at .inv .1) _ (count s) _
           (c .before .before .before .before .before .ready .ensures) (omega arith) _ _ (sym (c .before .before .before .before .choose .ensures) ∙ c .before .before .task .given .1)),
     )
 

@@ -58,7 +58,8 @@ returns-3 c =
     let l = lists (s .args .set) in
     let is-made = made (f .before .before .before) in
     solving-explained (s .args .set) (sized s) _
-    (gives-order l (passes-sound (s .args .set) (sized s) is-made) _ (s .args .set) _ (c .before .before .before .before .before .trial .ensures .0) (every f) (omega (arith, c .before .before .before .if3 .taken))
+    (gives-order l (passes-sound (s .args .set) (sized s) is-made) _ (s .args .set) _ (c .before .before .before .before .before .trial .ensures .0)
+    (every f) (omega (arith, c .before .before .before .if3 .taken))
     ∙ solving-given (s .args .set) is-made (f .before .if2 .left))
 
 core-requires : tie.Need-core-requires
@@ -66,7 +67,8 @@ core-requires c κs =
     let s = c .before .before .before .before .before .before .before .before in
     let f = c .before .before .before in (
       made (f .before .before .before),
-      subst (λ (g : ℕ → Bool). Searched (lists (s .args .set)) g (c .before .before .trial .result)) (f .first .ensures) (assign-searched _ _ _ (c .before .before .trial .ensures .0)),
+      subst (λ (g : ℕ → Bool). Searched (lists (s .args .set)) g (c .before .before .trial .result)) (f .first .ensures)
+          (assign-searched _ _ _ (c .before .before .trial .ensures .0)),
     )
 
 returns-4 : tie.Need-returns-4

@@ -35,8 +35,8 @@ resume-requires c κs =
     (s .pre .0, omega (arith, passes-counts (s .args .set) (sized s) (s .pre .0) .0, searched-free _ _ _ (s .pre .1 .1)))
 
 -- every level gets filled exactly where the rules without k are feasible
-through : (c : tie.After-resume)
-    → (c .resume .result .free ≡ 0) ↔ T (feasible (problem (lists (c .before .before .args .set))) (without (marked (c .before .before .args .cut .marks)) (c .before .before .args .k)))
+through : (c : tie.After-resume) → let s = c .before .before in
+    (c .resume .result .free ≡ 0) ↔ T (feasible (problem (lists (s .args .set))) (without (marked (s .args .cut .marks)) (s .args .k)))
 through c =
     let s = c .before .before in
     let l = lists (s .args .set) in

@@ -1,7 +1,7 @@
--- Tests over the numbers below a bound: all pass, some passes, the greatest that passes, how many pass.
+-- Tests over the numbers below a bound: all pass, the greatest that passes, how many pass.
 -- A set of numbers is a test, ℕ → Bool, of which only what lies below the bound counts. Assumes nothing.
 use mathlib.Core.Path.{_≡_, refl, sym, subst}
-use mathlib.Core.Bool.{Bool, true, false, _&&_, _||_}
+use mathlib.Core.Bool.{Bool, true, false, _&&_}
 use mathlib.Core.Logic.{⊎-elim}
 use mathlib.Core.Option.{Option, none, some}
 use Prim.Native.Nat.{ℕ, zero, suc, _+_, _≤_, _<_}
@@ -9,7 +9,7 @@ use native.Mathlib.Nat.{not-suc-le-zero, le-of-suc-le-suc, eq-or-lt-of-le, le-re
 use native.Mathlib.Numerals.{add-one}
 use native.Mathlib.Omega.{arith}
 use lib.Dec.{T, eqb, eqb→eq, eqb-refl}
-use Rattle.sets.specs.Choice.{pick, decided, and-intro, and-left, and-right, or-cases, or-left, or-right, T→true, true→T, refuted→false, false→refuted}
+use Rattle.sets.specs.Choice.{pick, decided, and-intro, and-left, and-right, T→true, true→T, refuted→false, false→refuted}
 
 -- every number below n that is in B is in A
 abbrev pub Subset : ℕ → (ℕ → Bool) → (ℕ → Bool) → Type 0
@@ -74,28 +74,6 @@ pub all-next : (i : ℕ) (p : ℕ → Bool) → all (i + 1) p ≡ (p i && all i 
 unfolding all
 all-next i p = rw add-one
 
--- ---- some
-
-unfoldable pub any : ℕ → (ℕ → Bool) → Bool
-any zero p = false
-any (suc n) p = p n || any n p
-
-pub any-of : (n : ℕ) (p : ℕ → Bool) (k : ℕ) → k < n → T (p k) → T (any n p)
-unfolding any
-any-of zero p k h t = absurd (not-suc-le-zero h)
-any-of (suc n) p k h t =
-    ⊎-elim (λ e. or-left (p n) (any n p) (subst (λ (m : ℕ). T (p m)) e t))
-    (λ l. or-right (p n) (any n p) (any-of n p k l t))
-    (eq-or-lt-of-le (le-of-suc-le-suc h))
-
-pub any-found : (n : ℕ) (p : ℕ → Bool) → T (any n p) → (k : ℕ) × (k < n) × T (p k)
-unfolding any
-any-found zero p t = absurd t
-any-found (suc n) p t =
-    ⊎-elim (λ s. (n, le-refl (suc n), s))
-    (λ s. let r = any-found n p s in (r .0, le-step (r .1), r .2))
-    (or-cases (p n) (any n p) t)
-
 -- ---- the greatest
 
 unfoldable pub greatest : ℕ → (ℕ → Bool) → Option ℕ
@@ -146,15 +124,6 @@ greatest-under i p e = rw e
 unfoldable pub count : ℕ → (ℕ → Bool) → ℕ
 count zero p = 0
 count (suc n) p = count n p + pick (p n) 1 0
-
-pub count-le : (n : ℕ) (p : ℕ → Bool) → count n p ≤ n
-unfolding count
-count-le zero p = le-refl 0
-count-le (suc n) p = go (p n) (count-le n p)
-  where
-    go : (b : Bool) → count n p ≤ n → count n p + pick b 1 0 ≤ suc n
-    go true h = omega arith
-    go false h = omega arith
 
 step-le : (a b : Bool) → (T b → T a) → pick b 1 0 ≤ pick a 1 0
 step-le true true f = le-refl 1

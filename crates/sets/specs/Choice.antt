@@ -78,18 +78,6 @@ pub and-true : (a : Bool) → a ≡ (a && true)
 and-true true = refl
 and-true false = refl
 
-pub or-cases : (a b : Bool) → T (a || b) → T a ⊎ T b
-or-cases true b t = inl tt
-or-cases false b t = inr t
-
-pub or-left : (a b : Bool) → T a → T (a || b)
-or-left true b t = tt
-or-left false b t = absurd t
-
-pub or-right : (a b : Bool) → T b → T (a || b)
-or-right true b t = tt
-or-right false b t = t
-
 pub or-false-left : (a b : Bool) → (a || b) ≡ false → a ≡ false
 or-false-left true b e = e
 or-false-left false b e = refl

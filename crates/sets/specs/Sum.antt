@@ -1,13 +1,13 @@
--- Sums and maxima over a marked set of the numbers below a bound. Assumes nothing.
+-- Sums over a marked set of the numbers below a bound. Assumes nothing.
 use mathlib.Core.Path.{_≡_, refl, sym, subst}
 use mathlib.Core.Bool.{Bool, true, false}
-use Prim.Native.Nat.{ℕ, zero, suc, _+_, _*_, _≤_, _<_, max}
-use native.Mathlib.Nat.{le-refl, le-step, le-trans, le-antisymm, le-of-eq, not-suc-le-zero, add-le-add, mul-zero, zero-mul, suc-mul, mul-add, max-le, le-max-left, le-max-right}
+use Prim.Native.Nat.{ℕ, zero, suc, _+_, _*_, _≤_, _<_}
+use native.Mathlib.Nat.{le-refl, le-step, le-antisymm, le-of-eq, add-le-add, mul-zero, zero-mul, suc-mul, mul-add}
 use native.Mathlib.Numerals.{add-one}
 use native.Mathlib.Omega.{arith}
 use lib.Dec.{T}
 use Rattle.sets.specs.Choice.{pick}
-use Rattle.sets.specs.Bounded.{Subset, below-suc}
+use Rattle.sets.specs.Bounded.{Subset}
 
 -- ---- the sum of f over the numbers below n that are in A
 
@@ -80,25 +80,3 @@ sum-scaled (suc n) A f g h v k e =
     let below = sum-scaled n A f g h v k (λ j l. e j (le-step l)) in
     let here = term-scaled (A n) (f n) (g n) (h n) v k (e n (le-refl (suc n))) in
     simp mul-add (omega (arith, below, here))
-
--- ---- the greatest f over the numbers below n that are in A, 0 where there is none
-
-unfoldable pub most : ℕ → (ℕ → Bool) → (ℕ → ℕ) → ℕ
-most zero A f = 0
-most (suc n) A f = max (most n A f) (pick (A n) (f n) 0)
-
-pub most-at : (n : ℕ) (A : ℕ → Bool) (f : ℕ → ℕ) (j : ℕ) → j < n → T (A j) → f j ≤ most n A f
-unfolding most
-most-at zero A f j h = absurd (not-suc-le-zero h)
-most-at (suc n) A f j h =
-    below-suc (λ k. T (A k) → f k ≤ most (suc n) A f) n
-    (λ k l t. le-trans (most-at n A f k l t) (le-max-left (most n A f) (pick (A n) (f n) 0)))
-    (λ t. le-trans (term-mono true (A n) (f n) (f n) (λ s. t) (λ s. le-refl (f n))) (le-max-right (most n A f) (pick (A n) (f n) 0)))
-    j h
-
--- members of at most b each
-pub most-le : (n : ℕ) (A : ℕ → Bool) (f : ℕ → ℕ) (b : ℕ) → ((j : ℕ) → j < n → T (A j) → f j ≤ b) → most n A f ≤ b
-unfolding most
-most-le zero A f b h = omega arith
-most-le (suc n) A f b h =
-    max-le (most-le n A f b (λ j l. h j (le-step l))) (term-mono (A n) true (f n) b (λ t. tt) (h n (le-refl (suc n))))

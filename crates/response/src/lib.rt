@@ -142,7 +142,7 @@ fn leap(set: TaskSet, task: TaskIndex, above: [bool; MAX_TASKS], w: u64, reach: 
     far
 }
 
-// Where the climb goes on from w, whose demand is `needed`: there, or by two leaps from there.
+// Where the climb goes on from w, whose demand is `needed`: there, or by three leaps from there.
 fn next(
     set: TaskSet,
     task: TaskIndex,
@@ -160,13 +160,14 @@ fn next(
     ensures bounds { λ r. ⌜ Bounds (demand (rows set) (task .0) (marked above)) r ⌝ }
 {
     if leaps {
-        let far = leap(set, task, above, w, needed);
+        let near = leap(set, task, above, w, needed);
+        let far = leap(set, task, above, w, near);
         return leap(set, task, above, w, far);
     }
     needed
 }
 
-// The window, climbed to from a start that no solution lies below. Every fourth round leaps.
+// The window, climbed to from a start that no solution lies below. Every sixth round leaps.
 fn climb(set: TaskSet, task: TaskIndex, above: [bool; MAX_TASKS], start: u64, room: u64) -> Window
     requires { ⌜ isMade set ≡ true ⌝ }
     requires { ⌜ task .0 < set .ntasks ⌝ }
@@ -185,8 +186,8 @@ fn climb(set: TaskSet, task: TaskIndex, above: [bool; MAX_TASKS], start: u64, ro
         if needed <= w {
             break Window::At(w);
         }
-        w = next(set, task, above, w, needed, round == 3);
-        round = (round + 1) % 4;
+        w = next(set, task, above, w, needed, round == 5);
+        round = (round + 1) % 6;
     };
     window
 }

@@ -13,7 +13,7 @@ use Rattle.response.proofs.climb.Tie as tie
 
 abbrev Inv-loop : tie.InvT-loop
 Inv-loop set task above start room w₀ round₀ w round =
-    (1 ≤ w) × (round ≤ 3) × Bounds (demand (rows set) (task .0) (marked above)) w
+    (1 ≤ w) × (round ≤ 5) × Bounds (demand (rows set) (task .0) (marked above)) w
 
 abbrev μ-loop : tie.MeasureT-loop
 μ-loop set task above start room w₀ round₀ w round = room + 1 - w

@@ -10,7 +10,7 @@ use lib.Dec.{T, ltb}
 use lib.ListN.{length, set, replicate, replicate-append-replicate, length-map}
 use Rattle.sets.specs.Choice.{pick, option, and-true}
 use Rattle.sets.specs.Bounded.{without, greatest, Greatest, found, nothing, greatest-is}
-use Rattle.sets.specs.Marks.{marked, marked-without}
+use Rattle.sets.specs.Marks.{first, marked, marked-without}
 use Rattle.taskset.specs.declared.TaskIndex.{TaskIndex}
 use Rattle.taskset.specs.Rows.{maxTasks}
 use Rattle.taskset.specs.Calls.{Lists}
@@ -234,7 +234,7 @@ module _ (l : Lists) (inPlay : ℕ → Bool) (from : Assignment) where
 
 -- a search with no level filled
 pub stands-none : (l : Lists) (left : List Bool) (m : ℕ) → m ≡ length (l .tasks) → m ≤ maxTasks
-    → marked left ≡ (λ j. ltb j m)
+    → marked left ≡ first m
     → Stands l [] (record { levels = record { order = replicate maxTasks (index 0); responses = replicate maxTasks 0 }; free = m; left = left })
 unfolding unassigned
 stands-none l left m e few marks =

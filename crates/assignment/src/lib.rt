@@ -5,11 +5,10 @@ ghost use mathlib.Core.Bool.{true};
 ghost use mathlib.Core.List.{[]};
 ghost use mathlib.Core.Logic.{_↔_};
 ghost use Prim.Native.Nat.{_≤_, _<_};
-ghost use lib.Dec.{ltb};
 ghost use lib.ListN.{set};
 ghost use Rattle.sets.specs.Choice.{pick};
 ghost use Rattle.sets.specs.Bounded.{without};
-ghost use Rattle.sets.specs.Marks.{marked};
+ghost use Rattle.sets.specs.Marks.{first, marked};
 ghost use Rattle.taskset.specs.Rows.{maxTasks};
 ghost use Rattle.taskset.specs.Adding.{rows, rules, isMade};
 ghost use Rattle.taskset.specs.Calls.{lists};
@@ -47,7 +46,7 @@ pub struct Assignment {
 // Marks for the first n tasks.
 fn first(n: usize) -> [bool; MAX_TASKS]
     requires { ⌜ n ≤ maxTasks ⌝ }
-    ensures { λ r. ⌜ marked r ≡ (λ j. ltb j n) ⌝ }
+    ensures { λ r. ⌜ marked r ≡ first n ⌝ }
 {
     let mut marks = [false; MAX_TASKS];
     let mut j = 0;

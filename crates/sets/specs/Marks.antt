@@ -18,6 +18,10 @@ use Rattle.sets.specs.Pad.{pad, pad-length, pad-used, pad-unused, pad-re
 abbrev pub marked : List Bool → ℕ → Bool
 marked marks j = getD marks j false
 
+-- the first n indices
+abbrev pub first : ℕ → ℕ → Bool
+first n j = ltb j n
+
 -- a mark written
 pub marked-store : (marks : List Bool) (k : ℕ) (b : Bool) → k < length marks → (j : ℕ)
     → marked (set marks k b) j ≡ pick (eqb k j) b (marked marks j)
@@ -38,11 +42,11 @@ marked-none n =
     (λ g. List·getD-eq-default (replicate n false) false (omega (arith, length-replicate n false)))
     (lt-or-le j n))
 
-pub marked-first-none : (n : ℕ) → marked (replicate n false) ≡ (λ i. ltb i 0)
+pub marked-first-none : (n : ℕ) → marked (replicate n false) ≡ first 0
 marked-first-none n = marked-none n ∙ fun-ext (λ i. sym (le-ltb i 0 (omega arith)))
 
-pub marked-first : (marks : List Bool) (j : ℕ) → j < length marks → marked marks ≡ (λ i. ltb i j)
-    → marked (set marks j true) ≡ (λ i. ltb i (j + 1))
+pub marked-first : (marks : List Bool) (j : ℕ) → j < length marks → marked marks ≡ first j
+    → marked (set marks j true) ≡ first (j + 1)
 marked-first marks j h e = fun-ext (λ i. marked-store marks j true h i ∙ go i (eqb j i) refl (ap (λ (f : ℕ → Bool). f i) e))
   where
     go : (i : ℕ) (b : Bool) → eqb j i ≡ b → marked marks i ≡ ltb i j → pick b true (marked marks i) ≡ ltb i (j + 1)

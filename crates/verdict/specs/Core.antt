@@ -3,13 +3,9 @@
 -- Assumes nothing.
 use mathlib.Core.Bool.{Bool}
 use Prim.Native.Nat.{ℕ, zero, suc}
-use lib.Dec.{ltb}
 use Rattle.sets.specs.Choice.{pick}
 use Rattle.sets.specs.Bounded.{without}
-
--- all of m rules
-abbrev pub first : ℕ → ℕ → Bool
-first m k = ltb k m
+use Rattle.sets.specs.Marks.{first}
 
 -- rule k tried: out for good where the others in play are infeasible
 unfoldable pub tried : ((ℕ → Bool) → Bool) → (ℕ → Bool) → ℕ → ℕ → Bool

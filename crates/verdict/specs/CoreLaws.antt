@@ -6,9 +6,10 @@ use mathlib.Core.Logic.{_↔_, ⊎-elim}
 use Prim.Native.Nat.{ℕ, zero, suc, _<_}
 use native.Mathlib.Nat.{not-suc-le-zero, le-of-suc-le-suc, eq-or-lt-of-le}
 use lib.Dec.{T, ltb→lt}
+use Rattle.sets.specs.Marks.{first}
 use Rattle.sets.specs.Choice.{pick, true→T, false→refuted, refuted→false}
 use Rattle.sets.specs.Bounded.{Subset, without, without-still, without-other}
-use Rattle.verdict.specs.Core.{first, tried, leftAfter, coreOf}
+use Rattle.verdict.specs.Core.{tried, leftAfter, coreOf}
 
 module _ (feasible : (ℕ → Bool) → Bool) (m : ℕ) where
   abbrev left : ℕ → ℕ → Bool

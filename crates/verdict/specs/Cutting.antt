@@ -7,6 +7,7 @@ use native.Mathlib.Numerals.{add-one}
 use native.Mathlib.Omega.{arith}
 use lib.Dec.{T}
 use lib.ListN.{length}
+use Rattle.sets.specs.Marks.{first}
 use Rattle.sets.specs.Choice.{T→true, refuted→false}
 use Rattle.sets.specs.Bounded.{Subset, without, without-still}
 use Rattle.taskset.specs.Calls.{Lists}
@@ -17,7 +18,7 @@ use Rattle.assignment.specs.Decision.{Filled, filled-count, filled-fewer, feasi
 use Rattle.assignment.specs.Preemptive.{problem, lawful, feasible-order}
 use Rattle.assignment.specs.Levels.{Stands, Resumes, Searched}
 use Rattle.assignment.specs.Filling.{search-decides}
-use Rattle.verdict.specs.Core.{first, tried, leftAfter, coreOf}
+use Rattle.verdict.specs.Core.{tried, leftAfter, coreOf}
 use Rattle.verdict.specs.CoreLaws.{core-hopeless}
 
 -- ---- a rule tried

@@ -10,7 +10,7 @@ use lib.ListN.{length, getD, take, length-map}
 use Rattle.sets.specs.Choice.{true→T, false→refuted, refuted→false}
 use Rattle.sets.specs.Bounded.{Subset, without}
 use Rattle.sets.specs.Pad.{pad, pad-used, take-pad, map-at}
-use Rattle.sets.specs.Marks.{table, marked-padded}
+use Rattle.sets.specs.Marks.{first, table, marked-padded}
 use Rattle.taskset.specs.declared.TaskIndex.{TaskIndex}
 use Rattle.taskset.specs.declared.TaskSet.{TaskSet}
 use Rattle.taskset.specs.Rows.{maxTasks, maxRules}
@@ -29,7 +29,7 @@ use Rattle.assignment.specs.Levels.{index, time}
 use Rattle.verdict.specs.declared.Answer.{Answer}
 use Rattle.verdict.specs.declared.Answer.the-variants.{Refused, Order, Core}
 use Rattle.verdict.specs.declared.Solved.{Solved}
-use Rattle.verdict.specs.Core.{first, coreOf}
+use Rattle.verdict.specs.Core.{coreOf}
 use Rattle.verdict.specs.CoreLaws.{core-rules, core-infeasible, core-needed, core-empty}
 use Rattle.verdict.specs.Verdict.{ordered, core, responsesIn, verdictBy, verdictOn, given, solving}
 use Rattle.verdict.specs.Demand3.{everyRule, noRule, orderGiven, coreGiven, Demand3, Responses, Explains}

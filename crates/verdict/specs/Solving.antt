@@ -10,7 +10,7 @@ use lib.Seq.{ext-getD}
 use borrow.Author.Tests.{eq-eqb, ne-eqb}
 use Rattle.sets.specs.Choice.{refuted→false}
 use Rattle.sets.specs.Pad.{pad, map-at}
-use Rattle.sets.specs.Marks.{marked, table-is}
+use Rattle.sets.specs.Marks.{first, marked, table-is}
 use Rattle.taskset.specs.declared.TaskIndex.{TaskIndex}
 use Rattle.taskset.specs.declared.TaskSet.{TaskSet}
 use Rattle.taskset.specs.Rows.{maxTasks, maxRules}
@@ -25,7 +25,7 @@ use Rattle.assignment.specs.Preemptive.{ValidOrder, responseAt, problem, lawful
 use Rattle.assignment.specs.Levels.{index, time, responses, lowest, Stands}
 use Rattle.assignment.specs.Filling.{responses-length}
 use Rattle.verdict.specs.declared.Answer.the-variants.{Order, Core}
-use Rattle.verdict.specs.Core.{first, coreOf}
+use Rattle.verdict.specs.Core.{coreOf}
 use Rattle.verdict.specs.CoreLaws.{core-rules}
 use Rattle.verdict.specs.Verdict.{responsesIn, verdictBy, verdictOn, refused, given, solving}
 

@@ -7,7 +7,7 @@ use lib.Dec.{eqb}
 use lib.ListN.{length, replicate}
 use Rattle.sets.specs.Choice.{pick}
 use Rattle.sets.specs.Pad.{pad}
-use Rattle.sets.specs.Marks.{table}
+use Rattle.sets.specs.Marks.{first, table}
 use Rattle.taskset.specs.declared.TaskSet.{TaskSet}
 use Rattle.taskset.specs.Rows.{maxTasks, maxRules}
 use Rattle.taskset.specs.Adding.{isMade}
@@ -18,7 +18,7 @@ use Rattle.assignment.specs.Preemptive.{responseAt, problem}
 use Rattle.assignment.specs.Levels.{index, time}
 use Rattle.verdict.specs.declared.Solved.{Solved}
 use Rattle.verdict.specs.declared.Answer.the-variants.{Refused, Order, Core}
-use Rattle.verdict.specs.Core.{first, coreOf}
+use Rattle.verdict.specs.Core.{coreOf}
 
 -- an order with its responses, highest first, or a core as one mark for each rule
 pub data Verdict : Type 0 where

@@ -3,15 +3,14 @@ use mathlib.Core.Path.{_≡_, refl, subst, _∙_}
 use mathlib.Core.Bool.{true}
 use Prim.Native.Nat.{ℕ, _-_, _≤_}
 use native.Mathlib.Omega.{arith}
-use lib.Dec.{ltb}
 use lib.ListN.{length, length-set}
-use Rattle.sets.specs.Marks.{marked, marked-first-none, marked-first}
+use Rattle.sets.specs.Marks.{first, marked, marked-first-none, marked-first}
 use Rattle.taskset.specs.Rows.{maxTasks}
 use Rattle.assignment.proofs.first.Statement.{statement}
 use Rattle.assignment.proofs.first.Tie as tie
 
 abbrev Inv-loop : tie.InvT-loop
-Inv-loop n marks₀ j₀ marks j = (j ≤ n) × (length marks ≡ maxTasks) × (marked marks ≡ (λ i. ltb i j))
+Inv-loop n marks₀ j₀ marks j = (j ≤ n) × (length marks ≡ maxTasks) × (marked marks ≡ first j)
 
 abbrev μ-loop : tie.MeasureT-loop
 μ-loop n marks₀ j₀ marks j = n - j
@@ -40,7 +39,7 @@ returns : tie.Need-returns Inv-loop μ-loop
 returns c =
     let inv = c .before .loop .inv in
     let whole : c .before .loop .j ≡ c .before .before .args .n = omega (arith, inv .0) in
-    subst (λ (m : ℕ). marked (c .before .loop .marks) ≡ (λ j. ltb j m)) whole (inv .2)
+    subst (λ (m : ℕ). marked (c .before .loop .marks) ≡ first m) whole (inv .2)
 
 pub first-spec : {M : Type 1} → statement M
 first-spec = tie.close (tie.spec Inv-loop μ-loop loop-holds array-write-marks add-j loop-less loop-again returns)

@@ -6,7 +6,7 @@ use native.Mathlib.Omega.{arith}
 use borrow.Author.Needs.{needs}
 use borrow.Author.Tests.{not-true, not-false}
 use lib.ListN.{length}
-use Rattle.sets.specs.Marks.{marked}
+use Rattle.sets.specs.Marks.{first, marked}
 use Rattle.taskset.specs.Rows.{maxRules}
 use Rattle.taskset.specs.Adding.{rules, isMade}
 use Rattle.taskset.specs.Calls.{lists}
@@ -15,7 +15,7 @@ use Rattle.assignment.specs.Audsley.{feasible}
 use Rattle.assignment.specs.Preemptive.{problem}
 use Rattle.assignment.specs.Levels.{Searched}
 use Rattle.assignment.specs.Filling.{assign-searched}
-use Rattle.verdict.specs.Core.{first, coreOf}
+use Rattle.verdict.specs.Core.{coreOf}
 use Rattle.verdict.specs.Solving.{solving-14, solving-13, solving-given, gives-order, gives-core}
 use Rattle.verdict.specs.Explained.{solving-explained}
 use Rattle.verdict.proofs.solve.Statement.{statement}

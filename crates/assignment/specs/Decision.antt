@@ -16,6 +16,7 @@ use borrow.Author.Tests.{leb-false, eq-eqb}
 use Rattle.sets.specs.Choice.{pick, option, true→T, refuted→false, not→refuted, refuted→not, decided, lt-or-le, same-test, and-intro, and-left, and-right}
 use Rattle.sets.specs.Bounded.{Subset, without, without-still, without-other, all, all-at, all-of, greatest, IsGreatest, Greatest, found, nothing, greatest-is, count, count-less, count-but, count-whole, count-some, count-pos}
 use Rattle.sets.specs.Rank.{rank, Member, Distinct, getD-rank, getD-member, rank-getD, drop-rank, rank-drop}
+use Rattle.taskset.specs.declared.Rule.{Rule}
 use Rattle.assignment.specs.Orders.{ruleAt, IsOrder, before, Keeps, Valid}
 use Rattle.assignment.specs.Audsley.{Problem, unassigned, blocks, ready, mayTake, fill, assign, feasible}
 
@@ -295,6 +296,9 @@ module _ (p : Problem) (inPlay : ℕ → Bool) where
           absurd (out (j .0) (j .1) (j .2)))
           (eq-zero-or-pos (count (p .tasks) (unassigned p low)))
 
+  pub assign-filled : Filled p inPlay (assign p inPlay)
+  assign-filled = fill-ends (p .tasks) [] (omega arith) empty .0
+
   pub feasible-exactly : Lawful p → T (feasible p inPlay) ↔ SomeValid
   unfolding feasible
   feasible-exactly lawful =
@@ -303,6 +307,11 @@ module _ (p : Problem) (inPlay : ℕ → Bool) where
       (λ t. d .0 (eqb→eq levels (p .tasks) t), λ s. true→T (eqb levels (p .tasks)) (eq-eqb levels (p .tasks) (d .1 s)))
 
 -- ---- fewer rules in play
+
+-- a valid order stays so, whatever a deadline met means
+pub valid-fewer : {n : ℕ} {rules : List Rule} {Meets : ℕ → (ℕ → Bool) → Type 0} {less more : ℕ → Bool} {order : List ℕ}
+    → Subset (length rules) less more → Valid n rules Meets more order → Valid n rules Meets less order
+valid-fewer fewer v = record { isOrder = v .isOrder; keeps = λ k h on. v .keeps k h (fewer k h on); meets = v .meets }
 
 module _ (p : Problem) (less more : ℕ → Bool) (fewer : Subset (length (p .rules)) less more) where
   may-fewer : (free : ℕ → Bool) (i : ℕ) → T (mayTake p more free i) → T (mayTake p less free i)
@@ -320,4 +329,4 @@ module _ (p : Problem) (less more : ℕ → Bool) (fewer : Subset (length (p .ru
   feasible-fewer lawful t =
       let s = feasible-exactly p more lawful .0 t in
       feasible-exactly p less lawful .1
-      (s .0, record { isOrder = s .1 .isOrder; keeps = λ k h on. s .1 .keeps k h (fewer k h on); meets = s .1 .meets })
+      (s .0, valid-fewer fewer (s .1))

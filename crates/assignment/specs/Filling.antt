@@ -17,12 +17,13 @@ use Rattle.taskset.specs.Calls.{Lists}
 use Rattle.taskset.specs.Holding.{Sound}
 use Rattle.response.specs.declared.Response.{Response}
 use Rattle.response.specs.declared.Response.the-variants.{Late}
+use Rattle.assignment.specs.Orders.{SomeOrder}
 use Rattle.assignment.specs.declared.Assignment.{Assignment}
 use Rattle.assignment.specs.declared.Choice.{Choice}
 use Rattle.assignment.specs.declared.Choice.the-variants.{Takes, Nobody}
 use Rattle.assignment.specs.Audsley.{ready, unassigned, mayTake, fill, assign}
-use Rattle.assignment.specs.Decision.{unassigned-cons, Filled, empty, filled-count, fill-ends}
-use Rattle.assignment.specs.Preemptive.{SomeOrder, responseAt, isWithin, problem, fill-order}
+use Rattle.assignment.specs.Decision.{unassigned-cons, Filled, empty, filled-count, fill-ends, assign-filled}
+use Rattle.assignment.specs.Preemptive.{responseAt, isWithin, problem, fill-order}
 use Rattle.assignment.specs.Levels.{index, time, offer, chosen, responses, lowest, Stands, Resumes, Searched}
 
 -- ---- the arrays
@@ -275,4 +276,4 @@ assign-decides l sound inPlay a s =
 
 pub assign-searched : (l : Lists) (inPlay : ℕ → Bool) (a : Assignment) → Stands l (assign (problem l) inPlay) a
     → Searched l inPlay a
-assign-searched l inPlay a s = (assign (problem l) inPlay, fill-ends (problem l) inPlay (length (l .tasks)) [] (omega arith) empty .0, s)
+assign-searched l inPlay a s = (assign (problem l) inPlay, assign-filled (problem l) inPlay, s)

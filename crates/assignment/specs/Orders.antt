@@ -1,13 +1,16 @@
--- Document 01, "Orders and cores": orders of n tasks, the rules an order keeps, and validity. Nothing here says when a task
--- meets its deadline: `Meets i above` does, for task i with the tasks of `above` above it. Assumes nothing.
+-- Document 01, "Orders and cores": orders of n tasks, the rules an order keeps, and validity, first for any meaning of a
+-- deadline met, then for document 01's own. Assumes nothing.
 use mathlib.Core.Bool.{Bool}
 use mathlib.Core.List.{List}
-use Prim.Native.Nat.{ℕ, _<_}
+use Prim.Native.Nat.{ℕ, _+_, _≤_, _<_}
 use lib.Dec.{T, ltb}
 use lib.ListN.{length, getD}
 use Rattle.sets.specs.Rank.{rank, Member, Distinct}
+use Rattle.taskset.specs.declared.Task.{Task}
 use Rattle.taskset.specs.declared.Rule.{Rule}
 use Rattle.taskset.specs.Adding.{blankRule}
+use Rattle.taskset.specs.Calls.{Lists}
+use Rattle.response.specs.Equation.{taskAt, demand, IsWindow}
 
 abbrev pub ruleAt : List Rule → ℕ → Rule
 ruleAt rules k = getD rules k blankRule
@@ -26,8 +29,23 @@ before order i j = ltb (rank order j) (rank order i)
 abbrev pub Keeps : List ℕ → Rule → Type 0
 Keeps order r = rank order (r .higher .0) < rank order (r .lower .0)
 
--- an order that keeps every rule in play, and in which each task meets its deadline with the tasks before it above it
+-- an order that keeps every rule in play, and in which each task meets its deadline with the tasks before it above it; when
+-- task i does so with the tasks of `above` above it, `Meets i above` says
 pub record Valid (n : ℕ) (rules : List Rule) (Meets : ℕ → (ℕ → Bool) → Type 0) (inPlay : ℕ → Bool) (order : List ℕ) : Type 0 where
   pub isOrder : IsOrder n order
   pub keeps : (k : ℕ) → k < length rules → T (inPlay k) → Keeps order (ruleAt rules k)
   pub meets : (i : ℕ) → i < n → Meets i (before order i)
+
+-- ---- by the response-time equation
+
+-- task i, with the tasks of `above` above it: its response window w exists, and jitter + w is at most its deadline
+abbrev pub MeetsDeadline : List Task → ℕ → (ℕ → Bool) → Type 0
+MeetsDeadline tasks i above = (w : ℕ) × IsWindow (demand tasks i above) w × (taskAt tasks i .jitter + w ≤ taskAt tasks i .deadline)
+
+-- an order of these tasks that keeps the rules in play and meets every deadline
+abbrev pub ValidOrder : Lists → (ℕ → Bool) → List ℕ → Type 0
+ValidOrder l inPlay order = Valid (length (l .tasks)) (l .rules) (MeetsDeadline (l .tasks)) inPlay order
+
+-- there is one
+abbrev pub SomeOrder : Lists → (ℕ → Bool) → Type 0
+SomeOrder l inPlay = (order : List ℕ) × ValidOrder l inPlay order

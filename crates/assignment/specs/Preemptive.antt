@@ -3,7 +3,7 @@ use mathlib.Core.Path.{_≡_, refl, sym, subst}
 use mathlib.Core.Bool.{Bool, true, false}
 use mathlib.Core.List.{List}
 use mathlib.Core.Logic.{_↔_}
-use Prim.Native.Nat.{ℕ, _+_, _-_, _≤_}
+use Prim.Native.Nat.{ℕ, _-_, _≤_}
 use native.Mathlib.Omega.{arith}
 use lib.Dec.{T}
 use lib.ListN.{length}
@@ -14,24 +14,12 @@ use Rattle.taskset.specs.Calls.{Lists}
 use Rattle.taskset.specs.Holding.{Sound}
 use Rattle.response.specs.declared.Response.{Response}
 use Rattle.response.specs.declared.Response.the-variants.{Within, Late}
-use Rattle.response.specs.Equation.{taskAt, demand, IsWindow, SaysResponse, responseTime}
+use Rattle.response.specs.Equation.{taskAt, demand, SaysResponse, responseTime}
 use Rattle.response.specs.Agreement.{response-says}
 use Rattle.response.specs.Demand.{fewer-above}
-use Rattle.assignment.specs.Orders.{Valid}
+use Rattle.assignment.specs.Orders.{Valid, MeetsDeadline, ValidOrder, SomeOrder}
 use Rattle.assignment.specs.Audsley.{Problem, fill, feasible}
-use Rattle.assignment.specs.Decision.{Lawful, Filled, SomeValid, fill-decides, feasible-exactly}
-
--- task i, with the tasks of `above` above it: its response window w exists, and jitter + w is at most its deadline
-abbrev pub MeetsDeadline : List Task → ℕ → (ℕ → Bool) → Type 0
-MeetsDeadline tasks i above = (w : ℕ) × IsWindow (demand tasks i above) w × (taskAt tasks i .jitter + w ≤ taskAt tasks i .deadline)
-
--- an order of these tasks that keeps the rules in play and meets every deadline
-abbrev pub ValidOrder : Lists → (ℕ → Bool) → List ℕ → Type 0
-ValidOrder l inPlay order = Valid (length (l .tasks)) (l .rules) (MeetsDeadline (l .tasks)) inPlay order
-
--- there is one
-abbrev pub SomeOrder : Lists → (ℕ → Bool) → Type 0
-SomeOrder l inPlay = (order : List ℕ) × ValidOrder l inPlay order
+use Rattle.assignment.specs.Decision.{Lawful, Filled, SomeValid, fill-decides, feasible-exactly, feasible-fewer}
 
 -- the response of task i, searched for up to its deadline
 abbrev pub responseAt : List Task → ℕ → (ℕ → Bool) → Response
@@ -100,3 +88,8 @@ module _ (l : Lists) (sound : Sound l) (inPlay : ℕ → Bool) where
   fill-order low f few =
       let d = fill-decides (problem l) inPlay (lawful l sound) (length (l .tasks) - length low) low (omega arith) f in
       (λ e. some-valid .0 (d .0 e), λ s. d .1 (some-valid .1 s))
+
+-- and fewer rules keep that there is one
+pub less-feasible : (l : Lists) → Sound l → (less more : ℕ → Bool) → Subset (length (l .rules)) less more
+    → T (feasible (problem l) more) → T (feasible (problem l) less)
+less-feasible l sound less more fewer = feasible-fewer (problem l) less more fewer (lawful l sound)

@@ -14,9 +14,9 @@ use Rattle.taskset.specs.Exact.{callsOf}
 use Rattle.response.specs.declared.Response.{Response}
 use Rattle.response.specs.declared.Response.the-variants.{Within}
 use Rattle.response.specs.Equation.{interference, demand, windowFrom, windowOf, responseOf}
-use Rattle.assignment.specs.Orders.{before}
+use Rattle.assignment.specs.Orders.{before, ValidOrder, SomeOrder}
 use Rattle.assignment.specs.Audsley.{unassigned, ready, mayTake, fill, feasible}
-use Rattle.assignment.specs.Preemptive.{ValidOrder, SomeOrder, responseAt}
+use Rattle.assignment.specs.Preemptive.{responseAt}
 use Rattle.assignment.specs.Levels.{index}
 use Rattle.verdict.specs.Core.{tried, leftAfter}
 use Rattle.verdict.specs.Verdict.{core, verdictOn}

@@ -3,7 +3,8 @@
 use mathlib.Core.Path.{_≡_, refl, sym, subst, fun-ext}
 use mathlib.Core.Bool.{Bool, true, false}
 use mathlib.Core.Logic.{_↔_, ⊎-elim}
-use Prim.Native.Nat.{ℕ, zero, suc, _<_}
+use Prim.Native.Nat.{ℕ, zero, suc, _≤_, _<_}
+use native.Mathlib.Omega.{arith}
 use native.Mathlib.Nat.{not-suc-le-zero, le-of-suc-le-suc, eq-or-lt-of-le}
 use lib.Dec.{T, ltb→lt}
 use Rattle.sets.specs.Marks.{first}
@@ -34,6 +35,10 @@ module _ (feasible : (ℕ → Bool) → Bool) (m : ℕ) where
   unfolding leftAfter
   core-rules zero j t = ltb→lt j m t
   core-rules (suc k) j t = core-rules k j (left-shrinks k j t)
+
+  -- so it has none from m on
+  pub core-beyond : (k : ℕ) → m ≤ k → coreOf feasible m k ≡ false
+  core-beyond k h = refuted→false (coreOf feasible m k) (λ t. omega (arith, h, core-rules m k t))
 
   module _ (antitone : (B A : ℕ → Bool) → Subset m B A → T (feasible A) → T (feasible B)) where
     left-infeasible : (T (feasible (first m)) → ⊥) → (k : ℕ) → T (feasible (left k)) → ⊥

@@ -14,8 +14,8 @@ use Rattle.taskset.specs.Calls.{Lists}
 use Rattle.taskset.specs.Holding.{Sound}
 use Rattle.assignment.specs.declared.Assignment.{Assignment}
 use Rattle.assignment.specs.Audsley.{fill, feasible}
-use Rattle.assignment.specs.Decision.{Filled, filled-count, filled-fewer, feasible-fewer, fill-ends}
-use Rattle.assignment.specs.Preemptive.{problem, lawful, feasible-order}
+use Rattle.assignment.specs.Decision.{Filled, filled-count, filled-fewer, fill-ends}
+use Rattle.assignment.specs.Preemptive.{problem, feasible-order, less-feasible}
 use Rattle.assignment.specs.Levels.{Stands, Resumes, Searched}
 use Rattle.assignment.specs.Filling.{search-decides}
 use Rattle.verdict.specs.Core.{tried, leftAfter, coreOf}
@@ -80,4 +80,4 @@ less-fewer m inPlay less k e j h t = without-still inPlay k j (subst (λ (f : �
 -- without any: the core is empty where even that is infeasible
 pub none-left : (l : Lists) → Sound l → (T (feasible (problem l) (λ j. false)) → ⊥)
     → (λ j. false) ≡ coreOf (feasible (problem l)) (length (l .rules))
-none-left l sound = core-hopeless (feasible (problem l)) (length (l .rules)) (λ B A sub. feasible-fewer (problem l) B A sub (lawful l sound))
+none-left l sound = core-hopeless (feasible (problem l)) (length (l .rules)) (less-feasible l sound)

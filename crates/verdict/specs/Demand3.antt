@@ -15,8 +15,7 @@ use Rattle.taskset.specs.Adding.{isMade}
 use Rattle.taskset.specs.Calls.{Lists, lists}
 use Rattle.response.specs.declared.Response.the-variants.{Within}
 use Rattle.response.specs.Equation.{taskAt, SaysResponse}
-use Rattle.assignment.specs.Orders.{before}
-use Rattle.assignment.specs.Preemptive.{ValidOrder, SomeOrder}
+use Rattle.assignment.specs.Orders.{before, ValidOrder, SomeOrder}
 use Rattle.verdict.specs.declared.Solved.{Solved}
 use Rattle.verdict.specs.declared.Answer.the-variants.{Order, Core}
 

@@ -7,8 +7,8 @@ use Prim.Native.Nat.{ℕ, _<_}
 use native.Mathlib.Omega.{arith}
 use lib.Dec.{T, lt→ltb, eqb→eq}
 use lib.ListN.{length, getD, take, length-map}
-use Rattle.sets.specs.Choice.{true→T, false→refuted, refuted→false}
-use Rattle.sets.specs.Bounded.{Subset, without}
+use Rattle.sets.specs.Choice.{true→T, false→refuted}
+use Rattle.sets.specs.Bounded.{without}
 use Rattle.sets.specs.Pad.{pad, pad-used, take-pad, map-at}
 use Rattle.sets.specs.Marks.{first, table, marked-padded}
 use Rattle.taskset.specs.declared.TaskIndex.{TaskIndex}
@@ -21,16 +21,16 @@ use Rattle.response.specs.declared.Response.{Response}
 use Rattle.response.specs.declared.Response.the-variants.{Within, Late}
 use Rattle.response.specs.Equation.{taskAt, demand, SaysResponse}
 use Rattle.response.specs.Agreement.{response-says}
-use Rattle.assignment.specs.Orders.{before}
+use Rattle.assignment.specs.Orders.{before, ValidOrder}
 use Rattle.assignment.specs.Audsley.{assign, feasible}
-use Rattle.assignment.specs.Decision.{feasible-fewer}
-use Rattle.assignment.specs.Preemptive.{ValidOrder, responseAt, isWithin, problem, lawful, meets-exactly, feasible-order}
+use Rattle.assignment.specs.Decision.{valid-fewer}
+use Rattle.assignment.specs.Preemptive.{less-feasible, responseAt, isWithin, problem, meets-exactly, feasible-order}
 use Rattle.assignment.specs.Levels.{index, time}
 use Rattle.verdict.specs.declared.Answer.{Answer}
 use Rattle.verdict.specs.declared.Answer.the-variants.{Refused, Order, Core}
 use Rattle.verdict.specs.declared.Solved.{Solved}
 use Rattle.verdict.specs.Core.{coreOf}
-use Rattle.verdict.specs.CoreLaws.{core-rules, core-infeasible, core-needed, core-empty}
+use Rattle.verdict.specs.CoreLaws.{core-rules, core-beyond, core-infeasible, core-needed, core-empty}
 use Rattle.verdict.specs.Verdict.{ordered, core, responsesIn, verdictBy, verdictOn, given, solving}
 use Rattle.verdict.specs.Demand3.{everyRule, noRule, orderGiven, coreGiven, Demand3, Responses, Explains}
 use Rattle.verdict.specs.Solving.{assign-valid, solving-given}
@@ -60,10 +60,10 @@ module _ (l : Lists) (sound : Sound l) (s : TaskSet) where
 
   -- what keeps the first m rules keeps every rule
   every : (order : List ℕ) → ValidOrder l (first m) order → ValidOrder l everyRule order
-  every order v = record { isOrder = v .isOrder; keeps = λ k h on. v .keeps k h (lt→ltb k m h); meets = v .meets }
+  every order = valid-fewer (λ k h on. lt→ltb k m h)
 
   firsts : (order : List ℕ) → ValidOrder l everyRule order → ValidOrder l (first m) order
-  firsts order v = record { isOrder = v .isOrder; keeps = λ k h on. v .keeps k h tt; meets = v .meets }
+  firsts order = valid-fewer (λ k h on. tt)
 
   -- ---- an order
 
@@ -137,11 +137,7 @@ module _ (l : Lists) (sound : Sound l) (s : TaskSet) where
     refusal = given s (core (table m cut))
 
     marks : coreGiven refusal ≡ cut
-    marks =
-        marked-padded maxRules m cut (λ k h. refuted→false (cut k) (λ t. omega (arith, h, core-rules test m m k t)))
-
-    fewer : (B A : ℕ → Bool) → Subset m B A → T (test A) → T (test B)
-    fewer B A sub = feasible-fewer (problem l) B A sub (lawful l sound)
+    marks = marked-padded maxRules m cut (core-beyond test m)
 
     core-demand3 : Demand3 l refusal
     core-demand3 =
@@ -151,12 +147,12 @@ module _ (l : Lists) (sound : Sound l) (s : TaskSet) where
           refuses = (λ e o. no (feasible-order l sound (first m) .1 (o .0, firsts (o .0) (o .1))), λ e. refl);
           valid = λ e. absurd (order-not-core (sym e));
           rules = λ e k t. core-rules test m m k (subst (λ (f : ℕ → Bool). T (f k)) marks t);
-          clash = λ e o. core-infeasible test m fewer no (subst (λ (f : ℕ → Bool). T (test f)) marks (feasible-order l sound (coreGiven refusal) .1 o));
+          clash = λ e o. core-infeasible test m (less-feasible l sound) no (subst (λ (f : ℕ → Bool). T (test f)) marks (feasible-order l sound (coreGiven refusal) .1 o));
           needed = λ e k t.
               feasible-order l sound (without (coreGiven refusal) k) .0
-              (subst (λ (f : ℕ → Bool). T (test (without f k))) (sym marks) (core-needed test m fewer k (subst (λ (f : ℕ → Bool). T (f k)) marks t)));
+              (subst (λ (f : ℕ → Bool). T (test (without f k))) (sym marks) (core-needed test m (less-feasible l sound) k (subst (λ (f : ℕ → Bool). T (f k)) marks t)));
           empty = λ e.
-              let c = core-empty test m fewer no in (
+              let c = core-empty test m (less-feasible l sound) no in (
                 λ none o. c .0 (λ j t. none j (subst (λ (f : ℕ → Bool). T (f j)) (sym marks) t)) (feasible-order l sound noRule .1 o),
                 λ none j t. c .1 (λ u. none (feasible-order l sound noRule .0 u)) j (subst (λ (f : ℕ → Bool). T (f j)) marks t),
               );

@@ -8,7 +8,6 @@ use native.Mathlib.Omega.{arith}
 use lib.ListN.{length, getD, replicate, drop, length-map}
 use lib.Seq.{ext-getD}
 use borrow.Author.Tests.{eq-eqb, ne-eqb}
-use Rattle.sets.specs.Choice.{refuted→false}
 use Rattle.sets.specs.Pad.{pad, map-at}
 use Rattle.sets.specs.Marks.{first, marked, table-is}
 use Rattle.taskset.specs.declared.TaskIndex.{TaskIndex}
@@ -18,15 +17,15 @@ use Rattle.taskset.specs.Adding.{rules, isMade}
 use Rattle.taskset.specs.Calls.{Lists, lists}
 use Rattle.taskset.specs.Holding.{Sound}
 use Rattle.assignment.specs.declared.Assignment.{Assignment}
-use Rattle.assignment.specs.Orders.{before}
+use Rattle.assignment.specs.Orders.{before, ValidOrder}
 use Rattle.assignment.specs.Audsley.{unassigned, assign, feasible}
-use Rattle.assignment.specs.Decision.{Filled, empty, filled-count, fill-ends, before-unassigned, filled-valid}
-use Rattle.assignment.specs.Preemptive.{ValidOrder, responseAt, problem, lawful, valid-exactly}
+use Rattle.assignment.specs.Decision.{filled-count, assign-filled, before-unassigned, filled-valid}
+use Rattle.assignment.specs.Preemptive.{responseAt, problem, lawful, valid-exactly}
 use Rattle.assignment.specs.Levels.{index, time, responses, lowest, Stands}
 use Rattle.assignment.specs.Filling.{responses-length}
 use Rattle.verdict.specs.declared.Answer.the-variants.{Order, Core}
 use Rattle.verdict.specs.Core.{coreOf}
-use Rattle.verdict.specs.CoreLaws.{core-rules}
+use Rattle.verdict.specs.CoreLaws.{core-beyond}
 use Rattle.verdict.specs.Verdict.{responsesIn, verdictBy, verdictOn, refused, given, solving}
 
 -- ---- refused
@@ -61,9 +60,6 @@ module _ (l : Lists) (sound : Sound l) (inPlay : ℕ → Bool) where
   abbrev order : List ℕ
   order = assign (problem l) inPlay
 
-  filled : Filled (problem l) inPlay order
-  filled = fill-ends (problem l) inPlay (length (l .tasks)) [] (omega arith) empty .0
-
   -- so, where all levels are filled, the responses are those of each task with the tasks before it above it
   responses-in : length order ≡ length (l .tasks) → responses l order ≡ responsesIn l order
   responses-in long =
@@ -71,15 +67,15 @@ module _ (l : Lists) (sound : Sound l) (inPlay : ℕ → Bool) where
       (λ k h.
       let here : k < length order = omega (arith, h, responses-length l order) in
       response-at l order k here
-      ∙ ap (λ (f : ℕ → Bool). time (responseAt (l .tasks) (getD order k 0) f)) (sym (before-unassigned (problem l) inPlay (lawful l sound) order filled long k here))
+      ∙ ap (λ (f : ℕ → Bool). time (responseAt (l .tasks) (getD order k 0) f)) (sym (before-unassigned (problem l) inPlay (lawful l sound) order (assign-filled (problem l) inPlay) long k here))
       ∙ sym (map-at (λ i. time (responseAt (l .tasks) i (before order i))) order k 0 0 here))
 
   pub assign-valid : length order ≡ length (l .tasks) → ValidOrder l inPlay order
-  assign-valid long = valid-exactly l inPlay order .0 (filled-valid (problem l) inPlay (lawful l sound) order filled long)
+  assign-valid long = valid-exactly l inPlay order .0 (filled-valid (problem l) inPlay (lawful l sound) order (assign-filled (problem l) inPlay) long)
 
   module _ (s : TaskSet) (a : Assignment) (stands : Stands l order a) where
     full : a .free ≡ 0 → length order ≡ length (l .tasks)
-    full z = omega (arith, z, stands .free, filled-count (problem l) inPlay order filled)
+    full z = omega (arith, z, stands .free, filled-count (problem l) inPlay order (assign-filled (problem l) inPlay))
 
     pub gives-order : inPlay ≡ first (length (l .rules)) → a .free ≡ 0
         → record { answer = Order; order = a .levels .order; responses = a .levels .responses; core = replicate maxRules false; set = s } ≡ given s (verdictOn l)
@@ -101,7 +97,6 @@ module _ (l : Lists) (sound : Sound l) (inPlay : ℕ → Bool) where
         let m = length (l .rules) in
         let no : feasible (problem l) inPlay ≡ false = ne-eqb (length order) (length (l .tasks)) (λ h. z (omega (arith, h, stands .free))) in
         ap (λ (c : List Bool). record { answer = Core; order = replicate maxTasks (index 0); responses = replicate maxTasks 0; core = c; set = s })
-        (table-is maxRules m (coreOf (feasible (problem l)) m) marks long (sound .few-rules) f
-        (λ k h. refuted→false (coreOf (feasible (problem l)) m k) (λ t. omega (arith, h, core-rules (feasible (problem l)) m m k t))))
+        (table-is maxRules m (coreOf (feasible (problem l)) m) marks long (sound .few-rules) f (core-beyond (feasible (problem l)) m))
         ∙ ap (λ (b : Bool). given s (verdictBy l b order (coreOf (feasible (problem l)) m))) (sym no)
         ∙ ap (λ (f : ℕ → Bool). given s (verdictBy l (feasible (problem l) f) (assign (problem l) f) (coreOf (feasible (problem l)) m))) e

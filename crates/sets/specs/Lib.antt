@@ -4,3 +4,4 @@ pub mod Sum
 pub mod Rank
 pub mod Pad
 pub mod Marks
+pub mod Onto

@@ -16,9 +16,11 @@ use Rattle.sets.specs.Pad.{pad, pad-used, pad-unused}
 use Rattle.taskset.specs.declared.Task.{Task}
 use Rattle.taskset.specs.declared.Rule.{Rule}
 use Rattle.taskset.specs.declared.TaskSet.{TaskSet}
+use Rattle.taskset.specs.declared.Call.{Call}
+use Rattle.taskset.specs.declared.Call.the-variants.{AddTask, AddRule}
 use Rattle.taskset.specs.Rows.{maxTasks, maxRules, InRanges, Between, firstOf, rowRefusals, indexRefusals}
 use Rattle.taskset.specs.Adding.{blankTask, blankRule, freshSet, rows, rules, taskFits, ruleFits, entry, isMade}
-use Rattle.taskset.specs.Calls.{Call, task, rule, after, run, Made, Lists, noLists, lists, append, heard}
+use Rattle.taskset.specs.Calls.{after, run, Made, Lists, noLists, lists, append, heard}
 use Rattle.taskset.specs.Laws.{row-accepted, row-accepts, rule-accepted, rule-accepts, task-taken, rule-taken}
 use Rattle.taskset.specs.Holding.{holding, Sound, none-sound, sound-made, run-holding, heard-sound}
 
@@ -189,32 +191,32 @@ module _ (s : TaskSet) (size : Sized s) (e : isMade s ≡ true) where
 -- lists that adding takes are heard whole
 hear-tasks : (ts : List Task) (l : Lists) (cs : List Call) → length (l .tasks) + length ts ≤ maxTasks
     → ((i : ℕ) → i < length ts → InRanges (getD ts i blankTask))
-    → heard l (map task ts ++ cs) ≡ heard (record { tasks = l .tasks ++ ts; rules = l .rules }) cs
+    → heard l (map AddTask ts ++ cs) ≡ heard (record { tasks = l .tasks ++ ts; rules = l .rules }) cs
 unfolding heard
 hear-tasks [] l cs h each = rw (append-nil (l .tasks))
 hear-tasks (t ∷ ts) l cs h each =
     let takes = task-taken (length (l .tasks)) t (row-accepts t (each 0 (zero-lt-suc (length ts)))) (omega arith) in
-    ap (λ (k : ℕ). heard (record { tasks = append k (l .tasks) t; rules = l .rules }) (map task ts ++ cs)) (sym takes)
+    ap (λ (k : ℕ). heard (record { tasks = append k (l .tasks) t; rules = l .rules }) (map AddTask ts ++ cs)) (sym takes)
     ∙ hear-tasks ts (record { tasks = l .tasks ++ t ∷ []; rules = l .rules }) cs (omega (arith, length-append (l .tasks) (t ∷ []))) (λ i k. each (suc i) (suc-le-suc k))
     ∙ rw (append-snoc (l .tasks) t ts)
 
 hear-rules : (rs : List Rule) (l : Lists) → length (l .rules) + length rs ≤ maxRules
     → ((i : ℕ) → i < length rs → Between (length (l .tasks)) (getD rs i blankRule))
-    → heard l (map rule rs) ≡ record { tasks = l .tasks; rules = l .rules ++ rs }
+    → heard l (map AddRule rs) ≡ record { tasks = l .tasks; rules = l .rules ++ rs }
 unfolding heard
 hear-rules [] l h each = rw (append-nil (l .rules))
 hear-rules (r ∷ rs) l h each =
     let takes = rule-taken (length (l .tasks)) (length (l .rules)) r (rule-accepts (length (l .tasks)) r (each 0 (zero-lt-suc (length rs)))) (omega arith) in
-    ap (λ (k : ℕ). heard (record { tasks = l .tasks; rules = append k (l .rules) r }) (map rule rs)) (sym takes)
+    ap (λ (k : ℕ). heard (record { tasks = l .tasks; rules = append k (l .rules) r }) (map AddRule rs)) (sym takes)
     ∙ hear-rules rs (record { tasks = l .tasks; rules = l .rules ++ r ∷ [] }) (omega (arith, length-append (l .rules) (r ∷ []))) (λ i k. each (suc i) (suc-le-suc k))
     ∙ rw (append-snoc (l .rules) r rs)
 
 abbrev pub callsOf : Lists → List Call
-callsOf l = map task (l .tasks) ++ map rule (l .rules)
+callsOf l = map AddTask (l .tasks) ++ map AddRule (l .rules)
 
 pub heard-all : (l : Lists) → Sound l → heard noLists (callsOf l) ≡ l
 heard-all l s =
-    hear-tasks (l .tasks) noLists (map rule (l .rules)) (omega (arith, s .few-tasks)) (s .rows)
+    hear-tasks (l .tasks) noLists (map AddRule (l .rules)) (omega (arith, s .few-tasks)) (s .rows)
     ∙ hear-rules (l .rules) (record { tasks = l .tasks; rules = [] }) (omega (arith, s .few-rules)) (s .indices)
 
 -- what passes is made by calls

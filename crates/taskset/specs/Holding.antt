@@ -16,9 +16,11 @@ use Rattle.sets.specs.Pad.{pad, set-pad, pad-used, pad-unused}
 use Rattle.taskset.specs.declared.Task.{Task}
 use Rattle.taskset.specs.declared.Rule.{Rule}
 use Rattle.taskset.specs.declared.TaskSet.{TaskSet}
+use Rattle.taskset.specs.declared.Call.{Call}
+use Rattle.taskset.specs.declared.Call.the-variants.{AddTask, AddRule}
 use Rattle.taskset.specs.Rows.{maxTasks, maxRules, InRanges, Between, taskRefusal, ruleRefusal}
 use Rattle.taskset.specs.Adding.{blankTask, blankRule, rows, taskFits, ruleFits, entry, isMade, withTask, withRule, adding}
-use Rattle.taskset.specs.Calls.{Call, task, rule, after, run, Lists, noLists, hear, heard}
+use Rattle.taskset.specs.Calls.{after, run, Lists, noLists, hear, heard}
 use Rattle.taskset.specs.Laws.{row-accepts, rule-accepts, task-taken-only, task-taken-exactly, rule-taken-only, rule-taken-exactly}
 
 -- the set that holds these lists
@@ -96,13 +98,13 @@ by-refusal P zero taken refused = taken refl
 by-refusal P (suc k) taken refused = rw (eqb·suc-zero k) refused
 
 after-holding : (l : Lists) → Sound l → (c : Call) → after (holding l) c ≡ holding (hear l c)
-after-holding l s (task t) =
+after-holding l s (AddTask t) =
     let k = taskRefusal (length (l .tasks)) t in
     adding-set (holding l) k (withTask (holding l) t) (sound-made l s)
     ∙ by-refusal
     (λ b. pick b (withTask (holding l) t) (holding l) ≡ holding (record { tasks = pick b (l .tasks ++ t ∷ []) (l .tasks); rules = l .rules }))
     k (λ e. holding-task l t (task-taken-only (length (l .tasks)) t e .1)) refl
-after-holding l s (rule r) =
+after-holding l s (AddRule r) =
     let k = ruleRefusal (length (l .tasks)) (length (l .rules)) r in
     adding-set (holding l) k (withRule (holding l) r) (sound-made l s)
     ∙ by-refusal
@@ -141,11 +143,11 @@ rule-sound l s r ok room =
     }
 
 hear-sound : (l : Lists) → Sound l → (c : Call) → Sound (hear l c)
-hear-sound l s (task t) =
+hear-sound l s (AddTask t) =
     let n = length (l .tasks) in
     by-refusal (λ b. Sound (record { tasks = pick b (l .tasks ++ t ∷ []) (l .tasks); rules = l .rules })) (taskRefusal n t)
     (λ e. let ok = task-taken-exactly n t .0 e in task-sound l s t (ok .0) (ok .1)) s
-hear-sound l s (rule r) =
+hear-sound l s (AddRule r) =
     let n = length (l .tasks) in
     let m = length (l .rules) in
     by-refusal (λ b. Sound (record { tasks = l .tasks; rules = pick b (l .rules ++ r ∷ []) (l .rules) })) (ruleRefusal n m r)

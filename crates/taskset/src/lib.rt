@@ -43,6 +43,12 @@ pub struct TaskSet {
     pub nrules: usize,
 }
 
+// The arguments of an adding call, its task set aside.
+pub enum Call {
+    AddTask(Task),
+    AddRule(Rule),
+}
+
 // What an adding call answers: the refusal's number, 0 where it is taken, and the set after the call.
 pub struct Added {
     pub refusal: u64,
@@ -95,7 +101,7 @@ fn index_refusal(n: usize, r: Rule) -> u64
 }
 
 // The refusal of a task added to n tasks: 1 to 5, then 10; 0 where it is taken.
-fn task_refusal(n: usize, t: Task) -> u64
+pub fn task_refusal(n: usize, t: Task) -> u64
     ensures { λ r. ⌜ r ≡ taskRefusal n t ⌝ }
 {
     let refusal = row_refusal(t);
@@ -109,7 +115,7 @@ fn task_refusal(n: usize, t: Task) -> u64
 }
 
 // The refusal of a rule added to n tasks and m rules: 6, 11, then 12; 0 where it is taken.
-fn rule_refusal(n: usize, m: usize, r: Rule) -> u64
+pub fn rule_refusal(n: usize, m: usize, r: Rule) -> u64
     ensures { λ q. ⌜ q ≡ ruleRefusal n m r ⌝ }
 {
     let refusal = index_refusal(n, r);

@@ -5,18 +5,12 @@ use Prim.Native.Nat.{ℕ, zero, suc, _/_, _^_, _<_}
 use lib.Dec.{eqb}
 use lib.ListN.{length, getD, drop}
 use Rattle.sets.specs.Choice.{pick}
-use Rattle.taskset.specs.declared.Task.{Task}
-use Rattle.taskset.specs.declared.Rule.{Rule}
-use Rattle.taskset.specs.Calls.{Call, task, rule}
-
-abbrev pub taskIn : List ℕ → Task
-taskIn ws = record { execution = getD ws 1 0; period = getD ws 2 0; deadline = getD ws 3 0; jitter = getD ws 4 0; blocking = getD ws 5 0 }
-
-abbrev pub ruleIn : List ℕ → Rule
-ruleIn ws = record { higher = record { 0 = getD ws 1 0 }; lower = record { 0 = getD ws 2 0 } }
+use Rattle.taskset.specs.declared.Call.{Call}
+use Rattle.taskset.specs.declared.Call.the-variants.{AddTask, AddRule}
+use Rattle.taskset.specs.Calls.{taskIn, ruleIn}
 
 abbrev pub callIn : List ℕ → Call
-callIn ws = pick (eqb (getD ws 0 0) 0) (task (taskIn ws)) (rule (ruleIn ws))
+callIn ws = pick (eqb (getD ws 0 0) 0) (AddTask (taskIn ws)) (AddRule (ruleIn ws))
 
 -- the first n calls, and all of them
 unfoldable pub firstCalls : ℕ → List ℕ → List Call
@@ -29,8 +23,8 @@ callsIn ws = firstCalls (length ws / 6) ws
 -- ---- and back: the words of a call, and of a list of them
 
 abbrev pub wordsOf : Call → List ℕ
-wordsOf (task t) = 0 ∷ t .execution ∷ t .period ∷ t .deadline ∷ t .jitter ∷ t .blocking ∷ []
-wordsOf (rule r) = 1 ∷ r .higher .0 ∷ r .lower .0 ∷ 0 ∷ 0 ∷ 0 ∷ []
+wordsOf (AddTask t) = 0 ∷ t .execution ∷ t .period ∷ t .deadline ∷ t .jitter ∷ t .blocking ∷ []
+wordsOf (AddRule r) = 1 ∷ r .higher .0 ∷ r .lower .0 ∷ 0 ∷ 0 ∷ 0 ∷ []
 
 abbrev pub encode : List Call → List ℕ
 encode [] = []

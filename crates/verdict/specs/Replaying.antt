@@ -10,9 +10,11 @@ use lib.Seq.{getD-take, drop-drop, length-take-le}
 use borrow.Author.Tests.{eq-eqb, ne-eqb}
 use Rattle.taskset.specs.declared.Added.{Added}
 use Rattle.taskset.specs.declared.TaskSet.{TaskSet}
+use Rattle.taskset.specs.declared.Call.{Call}
+use Rattle.taskset.specs.declared.Call.the-variants.{AddTask, AddRule}
 use Rattle.taskset.specs.Adding.{freshSet, addTask, addRule}
-use Rattle.taskset.specs.Calls.{Call, task, rule, after, run}
-use Rattle.verdict.specs.Replay.{taskIn, ruleIn, callIn, firstCalls, callsIn, wordsOf, encode, Words, Asked}
+use Rattle.taskset.specs.Calls.{taskIn, ruleIn, after, run}
+use Rattle.verdict.specs.Replay.{callIn, firstCalls, callsIn, wordsOf, encode, Words, Asked}
 
 -- ---- one call
 
@@ -75,16 +77,16 @@ replay-end n i ws now end h e =
 -- ---- every list of calls is read from some words
 
 read-call : (c : Call) (ws : List ℕ) → callIn (wordsOf c ++ ws) ≡ c
-read-call (task t) ws = refl
-read-call (rule r) ws = refl
+read-call (AddTask t) ws = refl
+read-call (AddRule r) ws = refl
 
 read-past : (c : Call) (ws : List ℕ) → drop 6 (wordsOf c ++ ws) ≡ ws
-read-past (task t) ws = refl
-read-past (rule r) ws = refl
+read-past (AddTask t) ws = refl
+read-past (AddRule r) ws = refl
 
 six-words : (c : Call) → length (wordsOf c) ≡ 6
-six-words (task t) = refl
-six-words (rule r) = refl
+six-words (AddTask t) = refl
+six-words (AddRule r) = refl
 
 read-calls : (cs : List Call) → firstCalls (length cs) (encode cs) ≡ cs
 unfolding firstCalls

@@ -8,9 +8,10 @@ use lib.ListN.{length}
 use Rattle.sets.specs.Pad.{take-pad}
 use Rattle.taskset.specs.declared.Task.{Task}
 use Rattle.taskset.specs.declared.Rule.{Rule}
+use Rattle.taskset.specs.declared.Call.{Call}
 use Rattle.taskset.specs.Rows.{maxTasks, maxRules}
 use Rattle.taskset.specs.Adding.{blankTask, blankRule, freshSet}
-use Rattle.taskset.specs.Calls.{Call, run, Lists, noLists, lists, heard}
+use Rattle.taskset.specs.Calls.{run, Lists, noLists, lists, heard}
 use Rattle.taskset.specs.Holding.{holding, none-sound, sound-made, run-holding, heard-sound}
 use Rattle.verdict.specs.declared.Solved.{Solved}
 use Rattle.verdict.specs.Verdict.{verdictOn, given, solving}

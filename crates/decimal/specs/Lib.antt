@@ -1,0 +1,5 @@
+pub mod Decimal
+pub mod Laws
+pub mod Reading
+pub mod Writing
+pub mod ReadBack

@@ -10,7 +10,8 @@ use lib.ListN.{length, getD, drop, drop-of-length-le}
 use lib.Seq.{drop-cons}
 use lib.Pow.{pow-add}
 use borrow.Author.Tests.{ltb-true, ltb-false, le-leb, lt-leb}
-use Rattle.sets.specs.Choice.{and-false, or-false-left, or-false-right}
+use Rattle.sets.specs.Choice.{pick, and-false, or-false-left, or-false-right}
+use Rattle.decimal.specs.declared.Number.{Number}
 use Rattle.decimal.specs.declared.Number.the-variants.{Value, Malformed}
 use Rattle.decimal.specs.Decimal.{maxDigits, isDigit, areDigits, valueAfter, value, isNumber, numberIn}
 
@@ -109,3 +110,30 @@ read-done bs v i h some few lead u =
     go true b e = refl
     go false true e = absurd (true≢false e)
     go false false e = refl
+
+-- ---- what an answer says of the bytes
+
+-- whether an answer is a number, and which
+isValue : Number → Bool
+isValue (Value v) = true
+isValue Malformed = false
+
+valueOf : Number → ℕ
+valueOf (Value v) = v
+valueOf Malformed = 0
+
+pub number-good : (bs : List ℕ) (v : ℕ) → numberIn bs ≡ Value v → (isNumber bs ≡ true) × (value bs ≡ v)
+unfolding isValue valueOf
+number-good bs v e = go (isNumber bs) refl e
+  where
+    go : (b : Bool) → isNumber bs ≡ b → pick b (Value (value bs)) Malformed ≡ Value v → (isNumber bs ≡ true) × (value bs ≡ v)
+    go true f g = (f, ap valueOf g)
+    go false f g = absurd (false≢true (ap isValue g))
+
+pub number-bad : (bs : List ℕ) → numberIn bs ≡ Malformed → isNumber bs ≡ false
+unfolding isValue
+number-bad bs e = go (isNumber bs) refl e
+  where
+    go : (b : Bool) → isNumber bs ≡ b → pick b (Value (value bs)) Malformed ≡ Malformed → isNumber bs ≡ false
+    go true f g = absurd (true≢false (ap isValue g))
+    go false f g = f

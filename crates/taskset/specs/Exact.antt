@@ -10,7 +10,7 @@ use lib.Dec.{T, leb, ltb, eqb, eqb→eq, leb→le}
 use lib.ListN.{length, getD, take, replicate, length-append, length-take, length-replicate, length-map}
 use lib.Seq.{length-take-le, getD-take, append-snoc, ext-getD}
 use borrow.Author.Tests.{lt-ltb, ltb-true, ltb-false}
-use Rattle.sets.specs.Choice.{true→T, and-left, and-right}
+use Rattle.sets.specs.Choice.{pick, true→T, and-left, and-right}
 use Rattle.sets.specs.Bounded.{all, all-at}
 use Rattle.sets.specs.Pad.{pad, pad-used, pad-unused}
 use Rattle.taskset.specs.declared.Task.{Task}
@@ -18,9 +18,9 @@ use Rattle.taskset.specs.declared.Rule.{Rule}
 use Rattle.taskset.specs.declared.TaskSet.{TaskSet}
 use Rattle.taskset.specs.declared.Call.{Call}
 use Rattle.taskset.specs.declared.Call.the-variants.{AddTask, AddRule}
-use Rattle.taskset.specs.Rows.{maxTasks, maxRules, InRanges, Between, firstOf, rowRefusals, indexRefusals}
-use Rattle.taskset.specs.Adding.{blankTask, blankRule, freshSet, rows, rules, taskFits, ruleFits, entry, isMade}
-use Rattle.taskset.specs.Calls.{after, run, Made, Lists, noLists, lists, append, heard}
+use Rattle.taskset.specs.Rows.{maxTasks, maxRules, InRanges, Between, firstOf, rowRefusals, indexRefusals, taskRefusal, ruleRefusal}
+use Rattle.taskset.specs.Adding.{blankTask, blankRule, freshSet, rows, rules, taskFits, ruleFits, entry, isMade, withTask, withRule, adding}
+use Rattle.taskset.specs.Calls.{add, after, run, Made, Lists, noLists, lists, append, heard}
 use Rattle.taskset.specs.Laws.{row-accepted, row-accepts, rule-accepted, rule-accepts, task-taken, rule-taken}
 use Rattle.taskset.specs.Holding.{holding, Sound, none-sound, sound-made, run-holding, heard-sound}
 
@@ -240,3 +240,21 @@ run-more s (x ∷ xs) c = run-more (after s x) xs c
 pub after-made : (s : TaskSet) → Made s → (c : Call) → Made (after s c)
 unfolding Made
 after-made s m c = (m .0 ++ c ∷ [], run-more freshSet (m .0) c ∙ ap (λ (x : TaskSet). after x c) (m .1))
+
+-- ---- adding below the public calls, to a set that calls make
+
+-- the refusal of a call's arguments, and the set with the entry
+abbrev pub refusalOf : TaskSet → Call → ℕ
+refusalOf s (AddTask t) = taskRefusal (s .ntasks) t
+refusalOf s (AddRule r) = ruleRefusal (s .ntasks) (s .nrules) r
+
+abbrev pub extended : TaskSet → Call → TaskSet
+extended s (AddTask t) = withTask s t
+extended s (AddRule r) = withRule s r
+
+-- which is what the public call answers
+pub adds : (s : TaskSet) → isMade s ≡ true → (c : Call)
+    → add s c ≡ record { refusal = refusalOf s c; set = pick (eqb (refusalOf s c) 0) (extended s c) s }
+unfolding adding
+adds s e (AddTask t) = rw e
+adds s e (AddRule r) = rw e

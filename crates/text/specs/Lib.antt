@@ -1,0 +1,6 @@
+pub mod Parts
+pub mod PartsLaws
+pub mod Text
+pub mod Fields
+pub mod LineLaws
+pub mod Lines

@@ -4,3 +4,4 @@ pub mod Text
 pub mod Fields
 pub mod LineLaws
 pub mod Lines
+pub mod Asking

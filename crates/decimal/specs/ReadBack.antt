@@ -73,7 +73,7 @@ decimal-value =
     (λ n m d some few e front. omega (arith, value-snoc 0 (decimal m) (48 + d)))
 
 -- and are digits
-decimal-digits : (n : ℕ) → T (areDigits (decimal n))
+pub decimal-digits : (n : ℕ) → T (areDigits (decimal n))
 unfolding areDigits
 decimal-digits =
     by-digits (λ n ds. T (areDigits ds)) (λ d few. and-intro (isDigit (48 + d)) true (digit d few) tt)

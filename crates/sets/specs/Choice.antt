@@ -11,6 +11,11 @@ abbrev pub pick {ℓ} : {A : Type ℓ} → Bool → A → A → A
 pick true a b = a
 pick false a b = b
 
+-- what bounds both bounds the choice
+pub pick-le : (b : Bool) {x y n : ℕ} → x ≤ n → y ≤ n → pick b x y ≤ n
+pick-le true h k = h
+pick-le false h k = k
+
 -- a choice by whether there is a value
 abbrev pub option : {A B : Type 0} → B → (A → B) → Option A → B
 option b f none = b

@@ -1,5 +1,5 @@
 -- Refusal 14 is exact: the check passes just the sets that calls make. Assumes nothing.
-use mathlib.Core.Path.{_≡_, refl, sym, ap, _∙_}
+use mathlib.Core.Path.{_≡_, refl, sym, ap, subst, _∙_}
 use mathlib.Core.Bool.{Bool, true, false, _&&_}
 use mathlib.Core.List.{List, [], _∷_, _++_, map, append-nil}
 use mathlib.Core.Logic.{_↔_}
@@ -10,9 +10,9 @@ use lib.Dec.{T, leb, ltb, eqb, eqb→eq, leb→le}
 use lib.ListN.{length, getD, take, replicate, length-append, length-take, length-replicate, length-map}
 use lib.Seq.{length-take-le, getD-take, append-snoc, ext-getD}
 use borrow.Author.Tests.{lt-ltb, ltb-true, ltb-false}
-use Rattle.sets.specs.Choice.{pick, true→T, and-left, and-right}
+use Rattle.sets.specs.Choice.{pick, pick-le, true→T, and-left, and-right}
 use Rattle.sets.specs.Bounded.{all, all-at}
-use Rattle.sets.specs.Pad.{pad, pad-used, pad-unused}
+use Rattle.sets.specs.Pad.{pad, pad-length, pad-used, pad-unused}
 use Rattle.taskset.specs.declared.Task.{Task}
 use Rattle.taskset.specs.declared.Rule.{Rule}
 use Rattle.taskset.specs.declared.TaskSet.{TaskSet}
@@ -21,7 +21,7 @@ use Rattle.taskset.specs.declared.Call.the-variants.{AddTask, AddRule}
 use Rattle.taskset.specs.Rows.{maxTasks, maxRules, InRanges, Between, firstOf, rowRefusals, indexRefusals, taskRefusal, ruleRefusal}
 use Rattle.taskset.specs.Adding.{blankTask, blankRule, freshSet, rows, rules, taskFits, ruleFits, entry, isMade, withTask, withRule, adding}
 use Rattle.taskset.specs.Calls.{add, after, run, Made, Lists, noLists, lists, append, heard}
-use Rattle.taskset.specs.Laws.{row-accepted, row-accepts, rule-accepted, rule-accepts, task-taken, rule-taken}
+use Rattle.taskset.specs.Laws.{row-accepted, row-accepts, rule-accepted, rule-accepts, task-taken, rule-taken, task-small, rule-small}
 use Rattle.taskset.specs.Holding.{holding, Sound, none-sound, sound-made, run-holding, heard-sound}
 
 -- what calls make passes
@@ -34,6 +34,15 @@ made-passes s m =
 -- a value of the code's type has arrays of these sizes
 abbrev pub Sized : TaskSet → Type 0
 Sized s = (length (s .tasks) ≡ maxTasks) × (length (s .rules) ≡ maxRules)
+
+-- and so has what calls make
+pub made-sized : (s : TaskSet) → Made s → Sized s
+unfolding Made
+made-sized s m =
+    let l = heard noLists (m .0) in
+    let sound = heard-sound noLists none-sound (m .0) in
+    subst Sized (sym (run-holding noLists none-sound (m .0)) ∙ m .1)
+    (pad-length maxTasks blankTask (l .tasks) (sound .few-tasks), pad-length maxRules blankRule (l .rules) (sound .few-rules))
 
 -- as the sizes are told of a parameter in the code
 pub sized-by : {A B : Type 0} (f : Task → A) (g : Rule → B) (s : TaskSet) → length (map f (s .tasks)) ≡ maxTasks
@@ -258,3 +267,9 @@ pub adds : (s : TaskSet) → isMade s ≡ true → (c : Call)
 unfolding adding
 adds s e (AddTask t) = rw e
 adds s e (AddRule r) = rw e
+
+-- and its refusal is a small number
+pub add-small : (s : TaskSet) (c : Call) → add s c .refusal ≤ 14
+unfolding adding
+add-small s (AddTask t) = pick-le (isMade s) (task-small (s .ntasks) t) (omega arith)
+add-small s (AddRule r) = pick-le (isMade s) (rule-small (s .ntasks) (s .nrules) r) (omega arith)

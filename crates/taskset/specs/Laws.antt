@@ -8,11 +8,11 @@ use native.Mathlib.Nat.{suc-ne-zero}
 use native.Mathlib.Omega.{arith}
 use lib.Dec.{T, ltb, leb, eqb, ltb→lt}
 use borrow.Author.Tests.{ltb-false, leb-false, eqb-false, le-ltb, le-leb, lt-leb, ne-eqb}
-use Rattle.sets.specs.Choice.{pick, or-false-left, or-false-right}
+use Rattle.sets.specs.Choice.{pick, pick-le, or-false-left, or-false-right}
 use Rattle.taskset.specs.declared.Task.{Task}
 use Rattle.taskset.specs.declared.Rule.{Rule}
 use Rattle.taskset.specs.declared.TaskSet.{TaskSet}
-use Rattle.taskset.specs.Rows.{maxTasks, maxRules, maxPeriod, InRanges, Between, firstOf, outside, rowRefusals, indexRefusals, taskRefusal, ruleRefusal}
+use Rattle.taskset.specs.Rows.{maxTasks, maxRules, maxPeriod, InRanges, Between, firstOf, outside, rowRefusals, indexRefusals, tasksFull, rulesFull, taskRefusal, ruleRefusal}
 use Rattle.taskset.specs.Adding.{isMade, adding}
 
 -- ---- ranges
@@ -185,3 +185,23 @@ task-taken-exactly n t =
 pub rule-taken-exactly : (n m : ℕ) (r : Rule) → (ruleRefusal n m r ≡ 0) ↔ (Between n r × (m < maxRules))
 rule-taken-exactly n m r =
     (λ e. let ok = rule-taken-only n m r e in (rule-accepted n r (ok .0), ok .1), λ h. sym (rule-taken n m r (rule-accepts n r (h .0)) (h .1)))
+
+-- ---- refusals are small numbers
+
+abbrev Small : List (ℕ × Bool) → Type 0
+Small [] = Unit {0}
+Small (r ∷ rs) = (r .0 ≤ 14) × Small rs
+
+first-small : (rs : List (ℕ × Bool)) → Small rs → firstOf rs ≤ 14
+first-small [] h = omega arith
+first-small (r ∷ rs) h = pick-le (r .1) (h .0) (first-small rs (h .1))
+
+pub task-small : (n : ℕ) (t : Task) → taskRefusal n t ≤ 14
+unfolding taskRefusal rowRefusals
+task-small n t =
+    first-small (rowRefusals t ++ tasksFull n ∷ [])
+    (omega arith, (omega arith, (omega arith, (omega arith, (omega arith, (omega arith, tt))))))
+
+pub rule-small : (n m : ℕ) (r : Rule) → ruleRefusal n m r ≤ 14
+unfolding ruleRefusal indexRefusals
+rule-small n m r = first-small (indexRefusals n r ++ rulesFull m ∷ []) (omega arith, (omega arith, (omega arith, tt)))

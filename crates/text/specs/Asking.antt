@@ -2,7 +2,7 @@
 use mathlib.Core.Path.{_≡_, refl, ap}
 use mathlib.Core.Bool.{Bool, true, false}
 use mathlib.Core.List.{List, [], _∷_}
-use Prim.Native.Nat.{ℕ, suc}
+use Prim.Native.Nat.{ℕ, suc, _≤_, _<_}
 use native.Mathlib.Omega.{arith}
 use lib.Dec.{ltb, eqb}
 use lib.ListN.{length}
@@ -13,6 +13,7 @@ use Rattle.taskset.specs.declared.Call.{Call}
 use Rattle.taskset.specs.declared.Added.{Added}
 use Rattle.taskset.specs.Adding.{freshSet}
 use Rattle.taskset.specs.Calls.{add, after, run}
+use Rattle.taskset.specs.Exact.{add-small}
 use Rattle.text.specs.declared.Line.{Line}
 use Rattle.text.specs.declared.Line.the-variants.{Asks, Unreadable}
 use Rattle.text.specs.declared.Reading.{Reading}
@@ -64,3 +65,30 @@ reading-runs text e = go (ltb maxText (length text)) e
         → pick b (refusedAt 0 8) (readFrom freshSet 1 (parts feed text)) .set ≡ run freshSet (callsAsked text)
     go true f = absurd (omega arith)
     go false f = read-runs (parts feed text) freshSet 1 f
+
+-- ---- a refused text has a number below 100
+
+read-small : (ps : List (List ℕ)) (s : TaskSet) (line : ℕ) → readFrom s line ps .refusal ≤ 14
+unfolding readFrom
+read-small [] s line = omega arith
+read-small ([] ∷ []) s line = omega arith
+read-small ((b ∷ bs) ∷ []) s line = omega arith
+read-small (bytes ∷ more ∷ rest) s line = go (lineIn bytes) (λ t. read-small (more ∷ rest) t (suc line))
+  where
+    answer : (b : Bool) (r q : Reading) → r .refusal ≤ 14 → q .refusal ≤ 14 → pick b r q .refusal ≤ 14
+    answer true r q h k = h
+    answer false r q h k = k
+
+    go : (l : Line) → ((t : TaskSet) → readFrom t (suc line) (more ∷ rest) .refusal ≤ 14)
+        → byLine s line l (λ t. readFrom t (suc line) (more ∷ rest)) .refusal ≤ 14
+    go Unreadable small = omega arith
+    go (Asks c) small =
+        answer (eqb (add s c .refusal) 0) (readFrom (after s c) (suc line) (more ∷ rest)) (refusedAt line (add s c .refusal)) (small (after s c)) (add-small s c)
+
+pub reading-small : (text : List ℕ) → reading text .refusal < 100
+unfolding reading
+reading-small text = go (ltb maxText (length text))
+  where
+    go : (b : Bool) → pick b (refusedAt 0 8) (readFrom freshSet 1 (parts feed text)) .refusal < 100
+    go true = omega arith
+    go false = omega (arith, read-small (parts feed text) freshSet 1)

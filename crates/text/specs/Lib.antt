@@ -5,3 +5,4 @@ pub mod Fields
 pub mod LineLaws
 pub mod Lines
 pub mod Asking
+pub mod Accepted

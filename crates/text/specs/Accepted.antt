@@ -1,0 +1,189 @@
+-- The accepted lines are exactly the letter and those numbers, written in decimal and parted by single tabs: a line and its
+-- fields determine each other, and so do a field that is a number and its value. Assumes nothing.
+use mathlib.Core.Path.{_≡_, refl, sym, ap, ap₂, subst, _∙_}
+use mathlib.Core.Bool.{Bool, true, false, _&&_, true≢false, false≢true}
+use mathlib.Core.List.{List, [], _∷_, map}
+use mathlib.Core.Logic.{_↔_, _≢_}
+use Prim.Native.Nat.{ℕ, zero, suc, _+_, _^_, _≤_, _<_}
+use native.Mathlib.Omega.{arith}
+use lib.Dec.{T, leb, eqb, leb→le, eqb→eq}
+use lib.ListN.{length, getD, drop, length-map, drop-of-length-le}
+use lib.Seq.{drop-cons}
+use borrow.Author.Tests.{ne-eqb, eqb-true}
+use Rattle.sets.specs.Choice.{pick, T→true, true→T, and-left, and-right}
+use Rattle.decimal.specs.Decimal.{maxDigits, isDigit, areDigits, value, isNumber, decimal}
+use Rattle.decimal.specs.Reading.{number-good}
+use Rattle.decimal.specs.ReadBack.{decimal-digits, read-back, number-exactly}
+use Rattle.taskset.specs.declared.Task.{Task}
+use Rattle.taskset.specs.declared.Rule.{Rule}
+use Rattle.taskset.specs.declared.Call.the-variants.{AddTask, AddRule}
+use Rattle.taskset.specs.Calls.{taskIn, ruleIn}
+use Rattle.text.specs.declared.Line.{Line}
+use Rattle.text.specs.declared.Line.the-variants.{Asks, Unreadable}
+use Rattle.text.specs.Parts.{tab, parts}
+use Rattle.text.specs.PartsLaws.{join, join-parts, Clear, AllClear, parts-join}
+use Rattle.text.specs.Text.{letterT, letterR, isLetter, areNumbers, hasForm, asked, lineIn}
+
+-- the fields of a task's line, and of a rule's
+abbrev pub taskFields : Task → List (List ℕ)
+taskFields t =
+    (letterT ∷ [])
+    ∷ decimal (t .execution)
+    ∷ decimal (t .period)
+    ∷ decimal (t .deadline)
+    ∷ decimal (t .jitter)
+    ∷ decimal (t .blocking)
+    ∷ []
+
+abbrev pub ruleFields : Rule → List (List ℕ)
+ruleFields r = (letterR ∷ []) ∷ decimal (r .higher .0) ∷ decimal (r .lower .0) ∷ []
+
+-- and the numbers of both
+abbrev pub taskNumbers : Task → List ℕ
+taskNumbers t = t .execution ∷ t .period ∷ t .deadline ∷ t .jitter ∷ t .blocking ∷ []
+
+abbrev pub ruleNumbers : Rule → List ℕ
+ruleNumbers r = r .higher .0 ∷ r .lower .0 ∷ []
+
+-- numbers of at most 7 digits
+abbrev pub Short : List ℕ → Type 0
+Short [] = Unit {0}
+Short (n ∷ ns) = (n < 10 ^ maxDigits) × Short ns
+
+abbrev pub TaskShort : Task → Type 0
+TaskShort t = Short (taskNumbers t)
+
+abbrev pub RuleShort : Rule → Type 0
+RuleShort r = Short (ruleNumbers r)
+
+-- ---- fields that are numbers
+
+-- they are the ones that are written for their values
+numbers-read : (fs : List (List ℕ)) → T (areNumbers fs) → (fs ≡ map decimal (map value fs)) × Short (map value fs)
+unfolding areNumbers
+numbers-read [] t = (refl, tt)
+numbers-read (f ∷ fs) t =
+    let first = number-exactly f (value f) .0 (rw (T→true (isNumber f) (and-left (isNumber f) (areNumbers fs) t))) in
+    let rest = numbers-read fs (and-right (isNumber f) (areNumbers fs) t) in
+    (ap₂ _∷_ (first .0) (rest .0), (first .1, rest .1))
+
+-- and what is written for short numbers is such fields, with these values
+numbers-written : (ns : List ℕ) → Short ns → (areNumbers (map decimal ns) ≡ true) × (map value (map decimal ns) ≡ ns)
+unfolding areNumbers
+numbers-written [] s = (refl, refl)
+numbers-written (n ∷ ns) s =
+    let first = number-good (decimal n) n (read-back n (s .0)) in
+    let rest = numbers-written ns (s .1) in
+    (rw (first .0) (rest .0), ap₂ _∷_ (first .1) (rest .1))
+
+-- no digit is a tab
+digits-clear : (ds : List ℕ) → T (areDigits ds) → Clear tab ds
+unfolding areDigits
+digits-clear [] t = tt
+digits-clear (d ∷ ds) t =
+    let high = leb→le 48 d (and-left (leb 48 d) (leb d 57) (and-left (isDigit d) (areDigits ds) t)) in
+    (ne-eqb d tab (omega arith), digits-clear ds (and-right (isDigit d) (areDigits ds) t))
+
+numbers-clear : (ns : List ℕ) → AllClear tab (map decimal ns)
+numbers-clear [] = tt
+numbers-clear (n ∷ ns) = (digits-clear (decimal n) (decimal-digits n), numbers-clear ns)
+
+-- ---- a letter and numbers
+
+abbrev lettered : ℕ → List ℕ → List (List ℕ)
+lettered letter ns = (letter ∷ []) ∷ map decimal ns
+
+letter-alone : (letter : ℕ) (f : List ℕ) → T (isLetter letter f) → f ≡ letter ∷ []
+letter-alone letter [] t = absurd t
+letter-alone letter (b ∷ []) t = ap (λ (c : ℕ). c ∷ []) (eqb-true b letter (T→true (eqb b letter) t))
+letter-alone letter (b ∷ c ∷ bs) t = absurd t
+
+-- the k entries from place i on; they are all the rest, where there are no more
+abbrev entries : ℕ → ℕ → List ℕ → List ℕ
+entries i zero vs = []
+entries i (suc k) vs = getD vs i 0 ∷ entries (suc i) k vs
+
+entries-all : (i k : ℕ) (vs : List ℕ) → length vs ≡ i + k → drop i vs ≡ entries i k vs
+entries-all i zero vs e = let none : length vs ≤ i = omega arith in drop-of-length-le vs none
+entries-all i (suc k) vs e = rw (drop-cons vs i 0 (omega arith), entries-all (suc i) k vs (omega arith))
+
+module _ (letter : ℕ) (ns : List ℕ) where
+  -- fields of this form, whose values after the first are these
+  form-read : (k : ℕ) (fs : List (List ℕ)) → hasForm letter k fs ≡ true → entries 1 k (map value fs) ≡ ns
+      → (fs ≡ lettered letter ns) × Short ns
+  unfolding hasForm
+  form-read k [] e same = absurd (false≢true e)
+  form-read k (f ∷ fs) e same =
+      let t = true→T (isLetter letter f && eqb (length fs) k && areNumbers fs) e in
+      let alone : T (isLetter letter f) = search (and-left, and-right) in
+      let many : T (eqb (length fs) k) = search (and-left, and-right) in
+      let read = numbers-read fs (and-right (isLetter letter f && eqb (length fs) k) (areNumbers fs) t) in
+      let long : length (map value (f ∷ fs)) ≡ 1 + k = omega (arith, length-map fs value, eqb→eq (length fs) k many) in
+      let is : map value fs ≡ ns = entries-all 1 k (map value (f ∷ fs)) long ∙ same in (
+        ap₂ _∷_ (letter-alone letter f alone) (read .0 ∙ ap (map decimal) is),
+        subst Short is (read .1),
+      )
+
+  -- what holds of the fields holds of the line
+  line-exactly : (l : Line) → letter ≢ tab → ((fs : List (List ℕ)) → asked fs ≡ l → (fs ≡ lettered letter ns) × Short ns)
+      → (Short ns → asked (lettered letter ns) ≡ l)
+      → (bytes : List ℕ) → (lineIn bytes ≡ l) ↔ ((bytes ≡ join tab (lettered letter ns)) × Short ns)
+  line-exactly l other read written bytes =
+      let clear : AllClear tab (lettered letter ns) = ((ne-eqb letter tab other, tt), numbers-clear ns) in (
+        λ e. let r = read (parts tab bytes) e in (sym (join-parts tab bytes) ∙ ap (join tab) (r .0), r .1),
+        λ h. rw (h .0, parts-join tab (lettered letter ns) (omega arith) clear) (written (h .1)),
+      )
+
+-- ---- both kinds of lines
+
+-- what the two tests and the values ask
+abbrev asks : Bool → Bool → List ℕ → Line
+asks t r vs = pick t (Asks (AddTask (taskIn vs))) (pick r (Asks (AddRule (ruleIn vs))) Unreadable)
+
+-- a task's: read, written, and both ways
+task-read : (t : Task) (fs : List (List ℕ)) → asked fs ≡ Asks (AddTask t) → (fs ≡ taskFields t) × TaskShort t
+unfolding asked
+task-read t fs = go (hasForm letterT 5 fs) (hasForm letterR 2 fs) refl
+  where
+    go : (a b : Bool) → hasForm letterT 5 fs ≡ a → asks a b (map value fs) ≡ Asks (AddTask t)
+        → (fs ≡ taskFields t) × TaskShort t
+    go true b form e =
+        let same : taskIn (map value fs) ≡ t = cc in
+        form-read letterT (taskNumbers t) 5 fs form (ap taskNumbers same)
+    go false true form e = absurd (true≢false (cc))
+    go false false form e = absurd (true≢false (cc))
+
+task-written : (t : Task) → TaskShort t → asked (taskFields t) ≡ Asks (AddTask t)
+unfolding asked hasForm
+task-written t s =
+    let w = numbers-written (taskNumbers t) s in
+    rw (w .0) (ap (λ (ms : List ℕ). Asks (AddTask (taskIn (value (letterT ∷ []) ∷ ms)))) (w .1))
+
+pub task-line-exactly : (bytes : List ℕ) (t : Task)
+    → (lineIn bytes ≡ Asks (AddTask t)) ↔ ((bytes ≡ join tab (taskFields t)) × TaskShort t)
+task-line-exactly bytes t =
+    line-exactly letterT (taskNumbers t) (Asks (AddTask t)) (omega arith) (task-read t) (task-written t) bytes
+
+-- and a rule's
+rule-read : (r : Rule) (fs : List (List ℕ)) → asked fs ≡ Asks (AddRule r) → (fs ≡ ruleFields r) × RuleShort r
+unfolding asked
+rule-read r fs = go (hasForm letterT 5 fs) (hasForm letterR 2 fs) refl
+  where
+    go : (a b : Bool) → hasForm letterR 2 fs ≡ b → asks a b (map value fs) ≡ Asks (AddRule r)
+        → (fs ≡ ruleFields r) × RuleShort r
+    go true b form e = absurd (true≢false (cc))
+    go false true form e =
+        let same : ruleIn (map value fs) ≡ r = cc in
+        form-read letterR (ruleNumbers r) 2 fs form (ap ruleNumbers same)
+    go false false form e = absurd (true≢false (cc))
+
+rule-written : (r : Rule) → RuleShort r → asked (ruleFields r) ≡ Asks (AddRule r)
+unfolding asked hasForm
+rule-written r s =
+    let w = numbers-written (ruleNumbers r) s in
+    rw (w .0) (ap (λ (ms : List ℕ). Asks (AddRule (ruleIn (value (letterR ∷ []) ∷ ms)))) (w .1))
+
+pub rule-line-exactly : (bytes : List ℕ) (r : Rule)
+    → (lineIn bytes ≡ Asks (AddRule r)) ↔ ((bytes ≡ join tab (ruleFields r)) × RuleShort r)
+rule-line-exactly bytes r =
+    line-exactly letterR (ruleNumbers r) (Asks (AddRule r)) (omega arith) (rule-read r) (rule-written r) bytes

@@ -5,6 +5,7 @@ mod reader;
 ghost use mathlib.Core.Path.{_≡_};
 ghost use Prim.Native.Nat.{_≤_};
 ghost use lib.ListN.{length, drop};
+ghost use Rattle.taskset.specs.Adding.{freshSet};
 ghost use Rattle.text.specs.Parts.{tab, parts, upTo};
 ghost use Rattle.text.specs.Text.{numbersIn, lineIn, refusedAt, reading};
 use decimal::Number;
@@ -124,42 +125,40 @@ pub fn parse(line: &[u8]) -> Line
 }
 
 // A refused text: the number, its line, and an empty set.
-fn refused(line: u64, refusal: u64) -> Reading
+fn refused(line: u64, refusal: u64, set: TaskSet) -> Reading
+    requires { ⌜ set ≡ freshSet ⌝ }
     ensures { λ r. ⌜ r ≡ refusedAt line refusal ⌝ }
 {
-    Reading {
-        refusal,
-        line,
-        set: TaskSet::fresh(),
-    }
+    Reading { refusal, line, set }
 }
 
 // Reads a text into a fresh set, a line at a time.
 pub fn read(text: &[u8]) -> Reading
     ensures { λ r. ⌜ r ≡ reading (now (text .entry)) ⌝ }
 {
+    let fresh = TaskSet::fresh();
     if MAX_TEXT < text.len() {
-        return refused(0, 8);
+        return refused(0, 8, fresh);
     }
-    let mut set = TaskSet::fresh();
+    let mut set = fresh;
     let mut at = 0;
     let mut line: u64 = 1;
     while at < text.len() {
         let bytes = reader::line_from(text, at);
         at += bytes.len();
         if text.len() <= at {
-            return refused(line, 7);
+            return refused(line, 7, fresh);
         }
         at += 1;
         let Line::Asks(call) = parse(bytes) else {
-            return refused(line, 7);
+            return refused(line, 7, fresh);
         };
         match call {
             Call::AddTask(task) => {
                 let n = set.ntasks;
                 let refusal = task_refusal(n, task);
                 if refusal != 0 {
-                    return refused(line, refusal);
+                    return refused(line, refusal, fresh);
                 }
                 set.tasks[n] = task;
                 set.ntasks = n + 1;
@@ -168,7 +167,7 @@ pub fn read(text: &[u8]) -> Reading
                 let n = set.nrules;
                 let refusal = rule_refusal(set.ntasks, n, rule);
                 if refusal != 0 {
-                    return refused(line, refusal);
+                    return refused(line, refusal, fresh);
                 }
                 set.rules[n] = rule;
                 set.nrules = n + 1;

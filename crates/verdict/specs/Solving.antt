@@ -5,9 +5,11 @@ use mathlib.Core.List.{List, [], _∷_, _++_, map}
 use Prim.Native.Nat.{ℕ, zero, suc, _-_, _<_}
 use native.Mathlib.Nat.{not-suc-le-zero, le-of-suc-le-suc}
 use native.Mathlib.Omega.{arith}
+use lib.Dec.{eqb}
 use lib.ListN.{length, getD, replicate, drop, length-map}
 use lib.Seq.{ext-getD}
 use borrow.Author.Tests.{eq-eqb, ne-eqb}
+use Rattle.sets.specs.Choice.{pick}
 use Rattle.sets.specs.Pad.{pad, map-at}
 use Rattle.sets.specs.Marks.{first, marked, table-is}
 use Rattle.taskset.specs.declared.TaskIndex.{TaskIndex}
@@ -23,10 +25,12 @@ use Rattle.assignment.specs.Decision.{filled-count, assign-filled, before-unass
 use Rattle.assignment.specs.Preemptive.{responseAt, problem, lawful, valid-exactly}
 use Rattle.assignment.specs.Levels.{index, time, responses, lowest, Stands}
 use Rattle.assignment.specs.Filling.{responses-length}
-use Rattle.verdict.specs.declared.Answer.the-variants.{Order, Core}
+use Rattle.verdict.specs.declared.Answer.{Answer}
+use Rattle.verdict.specs.declared.Answer.the-variants.{Refused, Order, Core}
+use Rattle.verdict.specs.declared.Solved.{Solved}
 use Rattle.verdict.specs.Core.{coreOf}
 use Rattle.verdict.specs.CoreLaws.{core-beyond}
-use Rattle.verdict.specs.Verdict.{responsesIn, verdictBy, verdictOn, refused, given, solving}
+use Rattle.verdict.specs.Verdict.{Verdict, ordered, core, responsesIn, verdictBy, verdictOn, refused, given, solving}
 
 -- ---- refused
 
@@ -41,6 +45,28 @@ solving-13 s e z = rw (e, eq-eqb (s .ntasks) 0 z)
 pub solving-given : (s : TaskSet) → isMade s ≡ true → (s .ntasks ≡ 0 → ⊥) → given s (verdictOn (lists s)) ≡ solving s
 unfolding solving
 solving-given s e z = rw (e, ne-eqb (s .ntasks) 0 z)
+
+-- the set is handed back, as it was
+given-set : (s : TaskSet) (v : Verdict) → given s v .set ≡ s
+given-set s (ordered order times) = refl
+given-set s (core marks) = refl
+
+pub solving-set : (s : TaskSet) → solving s .set ≡ s
+unfolding solving
+solving-set s = go (isMade s) (eqb (s .ntasks) 0)
+  where
+    go : (m z : Bool) → pick m (pick z (refused s 13) (given s (verdictOn (lists s)))) (refused s 14) .set ≡ s
+    go true true = refl
+    go true false = given-set s (verdictOn (lists s))
+    go false z = refl
+
+-- and what is not refused was made by calls
+pub solving-made : (s : TaskSet) (a : Answer) → solving s .answer ≡ a → ((k : ℕ) → a ≡ Refused k → ⊥) → isMade s ≡ true
+solving-made s a e other = go (isMade s) refl
+  where
+    go : (b : Bool) → isMade s ≡ b → isMade s ≡ true
+    go true f = f
+    go false f = absurd (other 14 (sym e ∙ ap (λ (r : Solved). r .answer) (sym (solving-14 s f))))
 
 -- ---- an order
 

@@ -16,11 +16,14 @@ use Rattle.text.proofs.read.Statement.{statement}
 use Rattle.text.proofs.read.Tie as tie
 
 abbrev Inv-loop : tie.InvT-loop
-Inv-loop text set₀ at₀ line₀ set at line =
+Inv-loop text fresh set₀ at₀ line₀ set at line =
     (at ≤ length text) × (line ≤ at + 1) × Made set × (readFrom set line (parts feed (drop at text)) ≡ reading text)
 
 abbrev μ-loop : tie.MeasureT-loop
-μ-loop text set₀ at₀ line₀ set at line = length text - at
+μ-loop text fresh set₀ at₀ line₀ set at line = length text - at
+
+fresh-requires : tie.Need-fresh-requires Inv-loop μ-loop
+fresh-requires c κs = search needs
 
 refused-requires : tie.Need-refused-requires Inv-loop μ-loop
 refused-requires c κs = search needs
@@ -28,12 +31,9 @@ refused-requires c κs = search needs
 returns : tie.Need-returns Inv-loop μ-loop
 returns c = c .refused .ensures ∙ text-long _ (c .before .if1 .taken)
 
-fresh-requires : tie.Need-fresh-requires Inv-loop μ-loop
-fresh-requires c κs = search needs
-
 loop-holds : tie.Need-loop-holds Inv-loop μ-loop
 loop-holds c =
-    let start = text-starts (c .before .before .before .args .text .now) (c .fresh .result) (omega arith) (c .fresh .ensures) in
+    let start = text-starts (c .before .before .before .args .text .now) (c .before .fresh .result) (omega arith) (c .before .fresh .ensures) in
     (omega arith, omega arith, start .0, start .1)
 
 line-from-requires : tie.Need-line-from-requires Inv-loop μ-loop
@@ -152,9 +152,9 @@ read-spec =
     (tie.spec
     Inv-loop
     μ-loop
+    fresh-requires
     refused-requires
     returns
-    fresh-requires
     loop-holds
     line-from-requires
     add-at

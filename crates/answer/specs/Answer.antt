@@ -4,9 +4,8 @@ use Prim.Native.Nat.{ℕ, _+_}
 use lib.Dec.{eqb}
 use lib.ListN.{length}
 use Rattle.sets.specs.Choice.{pick}
-use Rattle.decimal.specs.Decimal.{field}
+use Rattle.decimal.specs.Decimal.{tab, feed, field}
 use Rattle.text.specs.declared.Reading.{Reading}
-use Rattle.text.specs.Parts.{tab, feed}
 use Rattle.text.specs.Text.{reading}
 use Rattle.verdict.specs.Verdict.{solving}
 use Rattle.listing.specs.Listing.{Outcome, refused, shown, outcome}

@@ -7,13 +7,11 @@ ghost use Rattle.sets.specs.Onto.{onto};
 ghost use Rattle.listing.specs.Listing.{fitted, bufferAfter};
 ghost use Rattle.listing.specs.Short.{maxListing};
 ghost use Rattle.answer.specs.Answer.{answerTo, lineOf, answered, report};
+use decimal::FEED;
+use decimal::TAB;
 use decimal::write;
 use listing::list;
 use text::read;
-
-const TAB: u8 = 9;
-
-const FEED: u8 = 10;
 
 // A refusal's number or 0, its line, which is 0 unless it is a line's own, and the listing's byte count.
 pub struct Answered {

@@ -9,6 +9,13 @@ use Rattle.sets.specs.Choice.{pick}
 use Rattle.decimal.specs.declared.Number.{Number}
 use Rattle.decimal.specs.declared.Number.the-variants.{Value, Malformed}
 
+-- what parts the fields of a line, and what ends it
+abbrev pub tab : ℕ
+tab = 9
+
+abbrev pub feed : ℕ
+feed = 10
+
 abbrev pub maxDigits : ℕ
 maxDigits = 7
 

@@ -6,6 +6,11 @@ ghost use lib.ListN.{length};
 ghost use Rattle.sets.specs.Onto.{onto};
 ghost use Rattle.decimal.specs.Decimal.{numberIn, decimal, field};
 
+// What parts the fields of a line, and what ends it.
+pub const TAB: u8 = 9;
+
+pub const FEED: u8 = 10;
+
 pub const MAX_DIGITS: usize = 7;
 
 // What a field's bytes are: 1 to 7 digits with no leading zero, or no number.

@@ -7,7 +7,7 @@ use lib.ListN.{length, getD}
 use Rattle.sets.specs.Choice.{pick}
 use Rattle.sets.specs.Marks.{marked}
 use Rattle.sets.specs.Onto.{onto}
-use Rattle.decimal.specs.Decimal.{field}
+use Rattle.decimal.specs.Decimal.{tab, feed, field}
 use Rattle.taskset.specs.declared.TaskSet.{TaskSet}
 use Rattle.taskset.specs.Adding.{blankRule}
 use Rattle.assignment.specs.Levels.{index}
@@ -16,12 +16,6 @@ use Rattle.verdict.specs.declared.Answer.the-variants.{Refused, Order, Core}
 use Rattle.verdict.specs.declared.Solved.{Solved}
 use Rattle.listing.specs.declared.Row.{Row}
 use Rattle.listing.specs.declared.Listed.{Listed}
-
-abbrev pub tab : ℕ
-tab = 9
-
-abbrev pub feed : ℕ
-feed = 10
 
 -- ---- rows
 

@@ -9,7 +9,7 @@ use lib.ListN.{length, getD, take, length-append, List·getD-map, List·getD-eq-
 use lib.Seq.{getD-take}
 use Rattle.sets.specs.Choice.{pick, lt-or-le}
 use Rattle.sets.specs.Marks.{marked}
-use Rattle.decimal.specs.Decimal.{decimal, field}
+use Rattle.decimal.specs.Decimal.{tab, feed, decimal, field}
 use Rattle.decimal.specs.ReadBack.{decimal-width}
 use Rattle.taskset.specs.declared.TaskIndex.{TaskIndex}
 use Rattle.taskset.specs.declared.TaskSet.{TaskSet}
@@ -26,7 +26,7 @@ use Rattle.verdict.specs.Solving.{solving-set}
 use Rattle.verdict.specs.Demand3.{orderGiven, Demand3, Responses, Explains}
 use Rattle.verdict.specs.Explained.{solving-explained}
 use Rattle.listing.specs.declared.Row.{Row}
-use Rattle.listing.specs.Listing.{tab, feed, levelRow, ruleRow, rowsBelow, rowsFor, word, rowBytes, rowsBytes, listingWith, listing}
+use Rattle.listing.specs.Listing.{levelRow, ruleRow, rowsBelow, rowsFor, word, rowBytes, rowsBytes, listingWith, listing}
 use Rattle.listing.specs.RowsLaws.{rows-few}
 
 abbrev pub maxListing : ℕ

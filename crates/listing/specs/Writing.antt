@@ -8,12 +8,12 @@ use lib.ListN.{length, getD, take, drop, length-append}
 use lib.Seq.{take-suc, take-length, length-take-le}
 use borrow.Author.Tests.{lt-leb, le-leb}
 use Rattle.sets.specs.Onto.{onto, Front}
-use Rattle.decimal.specs.Decimal.{decimal, field}
+use Rattle.decimal.specs.Decimal.{tab, feed, decimal, field}
 use Rattle.decimal.specs.ReadBack.{decimal-width}
 use Rattle.taskset.specs.declared.TaskSet.{TaskSet}
 use Rattle.listing.specs.declared.Row.{Row}
 use Rattle.listing.specs.declared.Listed.{Listed}
-use Rattle.listing.specs.Listing.{tab, feed, rowBytes, rowsBytes, listingWith, shown, fitted, listed, bufferAfter}
+use Rattle.listing.specs.Listing.{rowBytes, rowsBytes, listingWith, shown, fitted, listed, bufferAfter}
 use Rattle.listing.specs.Table.{blankRow}
 
 -- ---- widths

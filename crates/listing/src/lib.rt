@@ -6,11 +6,13 @@ ghost use Prim.Native.Nat.{_+_, _≤_};
 ghost use lib.ListN.{length};
 ghost use Rattle.sets.specs.Marks.{marked};
 ghost use Rattle.sets.specs.Onto.{onto};
-ghost use Rattle.decimal.specs.Decimal.{field};
+ghost use Rattle.decimal.specs.Decimal.{feed, field};
 ghost use Rattle.taskset.specs.Rows.{maxTasks, maxRules};
 ghost use Rattle.verdict.specs.Verdict.{solving};
-ghost use Rattle.listing.specs.Listing.{feed, levelRow, ruleRow, rowsBelow, rowBytes, rowsBytes, listingWith, outcome, shown, fitted, listed, bufferAfter};
+ghost use Rattle.listing.specs.Listing.{levelRow, ruleRow, rowsBelow, rowBytes, rowsBytes, listingWith, outcome, shown, fitted, listed, bufferAfter};
 ghost use Rattle.listing.specs.Table.{maxRow, maxHead, tableOf, rowsIn};
+use decimal::FEED;
+use decimal::TAB;
 use decimal::width;
 use decimal::write;
 use taskset::MAX_RULES;
@@ -18,10 +20,6 @@ use taskset::TaskSet;
 use verdict::Answer;
 use verdict::Solved;
 use verdict::solve;
-
-const TAB: u8 = 9;
-
-const FEED: u8 = 10;
 
 // A line of a listing: level, task, response; or rule, higher, lower.
 pub struct Row {

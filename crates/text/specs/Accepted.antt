@@ -11,7 +11,7 @@ use lib.ListN.{length, getD, drop, length-map, drop-of-length-le}
 use lib.Seq.{drop-cons}
 use borrow.Author.Tests.{ne-eqb, eqb-true}
 use Rattle.sets.specs.Choice.{pick, T→true, true→T, and-left, and-right}
-use Rattle.decimal.specs.Decimal.{maxDigits, isDigit, areDigits, value, isNumber, decimal}
+use Rattle.decimal.specs.Decimal.{tab, maxDigits, isDigit, areDigits, value, isNumber, decimal}
 use Rattle.decimal.specs.Reading.{number-good}
 use Rattle.decimal.specs.ReadBack.{decimal-digits, read-back, number-exactly}
 use Rattle.taskset.specs.declared.Task.{Task}
@@ -20,7 +20,7 @@ use Rattle.taskset.specs.declared.Call.the-variants.{AddTask, AddRule}
 use Rattle.taskset.specs.Calls.{taskIn, ruleIn}
 use Rattle.text.specs.declared.Line.{Line}
 use Rattle.text.specs.declared.Line.the-variants.{Asks, Unreadable}
-use Rattle.text.specs.Parts.{tab, parts}
+use Rattle.text.specs.Parts.{parts}
 use Rattle.text.specs.PartsLaws.{join, join-parts, Clear, AllClear, parts-join}
 use Rattle.text.specs.Text.{letterT, letterR, isLetter, areNumbers, hasForm, asked, lineIn}
 

@@ -17,7 +17,8 @@ use Rattle.taskset.specs.Exact.{add-small}
 use Rattle.text.specs.declared.Line.{Line}
 use Rattle.text.specs.declared.Line.the-variants.{Asks, Unreadable}
 use Rattle.text.specs.declared.Reading.{Reading}
-use Rattle.text.specs.Parts.{feed, parts}
+use Rattle.decimal.specs.Decimal.{feed}
+use Rattle.text.specs.Parts.{parts}
 use Rattle.text.specs.LineLaws.{line-short}
 use Rattle.text.specs.Text.{lineIn, maxText, refusedAt, byAnswer, byLine, readFrom, reading}
 

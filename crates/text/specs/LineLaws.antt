@@ -9,13 +9,13 @@ use lib.ListN.{length, getD, drop, length-map}
 use borrow.Author.Tests.{eq-eqb, ne-eqb, eqb-true, le-leb}
 use Rattle.sets.specs.Choice.{pick, T→true, true→T, and-left, and-right, and-true, and-false}
 use Rattle.sets.specs.Pad.{pad-used}
-use Rattle.decimal.specs.Decimal.{value}
+use Rattle.decimal.specs.Decimal.{tab, value}
 use Rattle.taskset.specs.declared.Call.the-variants.{AddTask, AddRule}
 use Rattle.taskset.specs.Calls.{taskIn, ruleIn}
 use Rattle.text.specs.declared.Line.{Line}
 use Rattle.text.specs.declared.Line.the-variants.{Asks, Unreadable}
 use Rattle.text.specs.declared.Numbers.{Numbers}
-use Rattle.text.specs.Parts.{tab, before, parts}
+use Rattle.text.specs.Parts.{before, parts}
 use Rattle.text.specs.PartsLaws.{parts-here, parts-on}
 use Rattle.text.specs.Text.{letterT, letterR, isLetter, areNumbers, hasForm, asked, lineIn, maxNumbers, numbersBy, numbersIn}
 

@@ -14,7 +14,8 @@ use Rattle.taskset.specs.Calls.{add, run, Made}
 use Rattle.taskset.specs.Exact.{made-passes, after-made, refusalOf, extended, adds}
 use Rattle.text.specs.declared.Line.the-variants.{Asks, Unreadable}
 use Rattle.text.specs.declared.Reading.{Reading}
-use Rattle.text.specs.Parts.{feed, parts, upTo}
+use Rattle.decimal.specs.Decimal.{feed}
+use Rattle.text.specs.Parts.{parts, upTo}
 use Rattle.text.specs.PartsLaws.{parts-some, part-last, part-step}
 use Rattle.text.specs.Text.{lineIn, maxText, refusedAt, taken, byLine, readFrom, reading}
 

@@ -4,12 +4,6 @@ use Prim.Native.Nat.{ℕ}
 use lib.Dec.{eqb}
 use Rattle.sets.specs.Choice.{pick}
 
-abbrev pub tab : ℕ
-tab = 9
-
-abbrev pub feed : ℕ
-feed = 10
-
 -- one byte more before the first part
 abbrev pub before : ℕ → List (List ℕ) → List (List ℕ)
 before b [] = (b ∷ []) ∷ []

@@ -6,7 +6,7 @@ use lib.Dec.{leb, ltb, eqb}
 use lib.ListN.{length, replicate}
 use Rattle.sets.specs.Choice.{pick}
 use Rattle.sets.specs.Pad.{pad}
-use Rattle.decimal.specs.Decimal.{isNumber, value}
+use Rattle.decimal.specs.Decimal.{tab, feed, isNumber, value}
 use Rattle.taskset.specs.declared.TaskSet.{TaskSet}
 use Rattle.taskset.specs.declared.Call.the-variants.{AddTask, AddRule}
 use Rattle.taskset.specs.declared.Added.{Added}
@@ -16,7 +16,7 @@ use Rattle.text.specs.declared.Line.{Line}
 use Rattle.text.specs.declared.Line.the-variants.{Asks, Unreadable}
 use Rattle.text.specs.declared.Numbers.{Numbers}
 use Rattle.text.specs.declared.Reading.{Reading}
-use Rattle.text.specs.Parts.{tab, feed, parts}
+use Rattle.text.specs.Parts.{parts}
 
 -- the most bytes of a text
 abbrev pub maxText : ℕ

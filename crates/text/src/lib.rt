@@ -6,9 +6,11 @@ ghost use mathlib.Core.Path.{_≡_};
 ghost use Prim.Native.Nat.{_≤_};
 ghost use lib.ListN.{length, drop};
 ghost use Rattle.taskset.specs.Adding.{freshSet};
-ghost use Rattle.text.specs.Parts.{tab, parts, upTo};
+ghost use Rattle.decimal.specs.Decimal.{tab};
+ghost use Rattle.text.specs.Parts.{parts, upTo};
 ghost use Rattle.text.specs.Text.{numbersIn, lineIn, refusedAt, reading};
 use decimal::Number;
+use decimal::TAB;
 use taskset::Call;
 use taskset::MAX_RULES;
 use taskset::MAX_TASKS;
@@ -20,8 +22,6 @@ use taskset::rule_refusal;
 use taskset::task_refusal;
 
 const MAX_TEXT: usize = 16384;
-
-const TAB: u8 = 9;
 
 // The most numbers of a line.
 const MAX_NUMBERS: usize = 5;

@@ -3,9 +3,9 @@
 
 ghost use mathlib.Core.Path.{_≡_};
 ghost use lib.ListN.{drop};
-ghost use Rattle.text.specs.Parts.{feed, upTo};
-
-const FEED: u8 = 10;
+ghost use Rattle.decimal.specs.Decimal.{feed};
+ghost use Rattle.text.specs.Parts.{upTo};
+use decimal::FEED;
 
 pub struct Reader<'a> {
     pub text: &'a [u8],

@@ -8,10 +8,10 @@ use borrow.Author.Needs.{needs}
 use lib.ListN.{length, take, getD, length-append, length-map}
 use denote.Ref.{now}
 use Rattle.sets.specs.Onto.{Front, tailOf, withTail, front-in, front-length, tail-room, tail-back}
-use Rattle.decimal.specs.Decimal.{field}
+use Rattle.decimal.specs.Decimal.{feed, field}
 use Rattle.taskset.specs.Rows.{maxRules}
 use Rattle.listing.specs.declared.Row.{Row}
-use Rattle.listing.specs.Listing.{feed, rowBytes, rowsBytes, listingWith}
+use Rattle.listing.specs.Listing.{rowBytes, rowsBytes, listingWith}
 use Rattle.listing.specs.Table.{rowsIn, blankRow}
 use Rattle.listing.specs.Writing.{field-front, field-fits, copied, listing-first, after, none-after, one-after, one-fits}
 use Rattle.listing.proofs.put.Statement.{statement}

@@ -5,8 +5,8 @@ use native.Mathlib.Omega.{arith}
 use lib.ListN.{length, length-append}
 use denote.Ref.{now}
 use Rattle.sets.specs.Onto.{Front, withTail, front-in, tail-room, tail-back}
-use Rattle.decimal.specs.Decimal.{field}
-use Rattle.listing.specs.Listing.{tab, feed, rowBytes}
+use Rattle.decimal.specs.Decimal.{tab, feed, field}
+use Rattle.listing.specs.Listing.{rowBytes}
 use Rattle.listing.specs.Writing.{field-front, field-fits}
 use borrow.Author.Needs.{needs}
 use Rattle.listing.proofs.put_row.Statement.{statement}

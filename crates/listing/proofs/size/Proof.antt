@@ -4,9 +4,9 @@ use Prim.Native.Nat.{ℕ, _+_, _-_, _*_, _≤_, _<_, _^_}
 use native.Mathlib.Omega.{arith}
 use borrow.Author.Needs.{needs}
 use lib.ListN.{length, take, length-map}
-use Rattle.decimal.specs.Decimal.{field}
+use Rattle.decimal.specs.Decimal.{feed, field}
 use Rattle.taskset.specs.Rows.{maxRules}
-use Rattle.listing.specs.Listing.{feed, rowsBytes}
+use Rattle.listing.specs.Listing.{rowsBytes}
 use Rattle.listing.specs.Table.{maxRow}
 use Rattle.listing.specs.Writing.{few-digits, field-long, rows-longer}
 use Rattle.listing.proofs.size.Statement.{statement}

@@ -8,7 +8,8 @@ use borrow.Author.Needs.{needs}
 use Rattle.taskset.specs.Laws.{task-taken-only, rule-taken-only}
 use Rattle.taskset.specs.Calls.{Made}
 use Rattle.text.specs.declared.Line.the-variants.{Asks}
-use Rattle.text.specs.Parts.{feed, parts}
+use Rattle.decimal.specs.Decimal.{feed}
+use Rattle.text.specs.Parts.{parts}
 use Rattle.text.specs.PartsLaws.{part-within}
 use Rattle.text.specs.Text.{readFrom, reading}
 use Rattle.text.specs.Lines.{text-long, text-starts, text-ends, line-unended, line-unread, line-refused, line-taken}

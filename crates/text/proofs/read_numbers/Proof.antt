@@ -5,7 +5,8 @@ use Prim.Native.Nat.{_-_, _^_, _≤_, _<_}
 use native.Mathlib.Omega.{arith}
 use lib.ListN.{length, drop}
 use borrow.Author.Needs.{needs}
-use Rattle.text.specs.Parts.{tab, parts}
+use Rattle.decimal.specs.Decimal.{tab}
+use Rattle.text.specs.Parts.{parts}
 use Rattle.text.specs.PartsLaws.{parts-some, part-within, part-any, part-last, part-step}
 use Rattle.text.specs.Text.{maxNumbers}
 use Rattle.text.specs.Fields.{Held, held-none, held-more, numbers-bad, numbers-many, numbers-all}

@@ -42,7 +42,8 @@ use denote.Triple.Table.{entered, cited}
 use denote.Triple.Walked.{says, Stays, stay-none, walkOf, goes-none, Walks, ends-at, walked, walk-meets}
 use denote.Exit.{yes}
 use denote.Triple.Clauses.{ensured, lasts}
-use Rattle.text.specs.Parts.{feed, upTo}
+use Rattle.decimal.specs.Decimal.{feed}
+use Rattle.text.specs.Parts.{upTo}
 use Rattle.text.specs.declared.reader.Reader.{Reader}
 use Rattle.text.proofs.reader.Reader as T
 use Rattle.text.proofs.reader.Reader.Laws as T′

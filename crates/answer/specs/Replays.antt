@@ -1,5 +1,5 @@
 -- What a host gets is what replaying the text's lines as calls gives, so demand 3 covers it. Assumes nothing.
-use mathlib.Core.Path.{_≡_, refl, sym, ap, subst, _∙_}
+use mathlib.Core.Path.{_≡_, refl, sym, ap, subst₂, _∙_}
 use mathlib.Core.Bool.{Bool, true, false}
 use mathlib.Core.List.{List}
 use mathlib.Core.Logic.{_⊎_, inl, inr, ⊎-elim}
@@ -7,24 +7,25 @@ use Prim.Native.Nat.{ℕ, _+_, _≤_, _<_}
 use native.Mathlib.Omega.{arith}
 use lib.Dec.{leb, eqb}
 use lib.ListN.{length}
-use borrow.Author.Tests.{eqb-true, le-leb, lt-leb}
+use borrow.Author.Tests.{eqb-true, eqb-false, eq-eqb, le-leb}
 use Rattle.sets.specs.Choice.{pick, lt-or-le}
 use Rattle.sets.specs.Onto.{onto}
+use Rattle.taskset.specs.declared.TaskSet.{TaskSet}
 use Rattle.taskset.specs.Adding.{freshSet}
-use Rattle.taskset.specs.Calls.{run, noLists, heard}
-use Rattle.taskset.specs.Holding.{none-sound, sound-made, run-holding, heard-sound}
+use Rattle.taskset.specs.Calls.{run, Made, noLists, heard}
+use Rattle.taskset.specs.Holding.{none-sound, run-holding}
 use Rattle.taskset.specs.Exact.{made-passes, made-sized}
 use Rattle.text.specs.Text.{reading}
 use Rattle.text.specs.Asking.{callsAsked, reading-runs, reading-small}
-use Rattle.verdict.specs.declared.Answer.the-variants.{Order, Core}
 use Rattle.verdict.specs.declared.Solved.{Solved}
-use Rattle.verdict.specs.Verdict.{refused as unsolved, solving}
+use Rattle.verdict.specs.Verdict.{solving}
 use Rattle.verdict.specs.Demand3.{Demand3, Responses}
 use Rattle.verdict.specs.Solving.{solving-13}
 use Rattle.verdict.specs.Theorem.{demand-3}
-use Rattle.listing.specs.Listing.{listing, Outcome, refused, shown, outcome, fitted, bufferAfter}
+use Rattle.listing.specs.Listing.{listing, refused, shown, outcome, fitted, bufferAfter}
+use Rattle.listing.specs.Shown.{outcome-shown}
 use Rattle.listing.specs.Short.{maxListing, listing-short}
-use Rattle.answer.specs.Answer.{outcomeOf, answerTo, hostNumber}
+use Rattle.answer.specs.Answer.{answerTo, hostNumber}
 
 -- the verdict on the calls that a text's lines ask
 abbrev pub replayed : List ℕ → Solved
@@ -42,36 +43,70 @@ HostGets text r before after =
 
 -- ---- a text is refused by a number below 100, or its verdict is shown
 
-abbrev Refused : List ℕ → Type 0
-Refused text = (k : ℕ) × (k < 100) × (answerTo text ≡ refused k)
+abbrev pub Refused : List ℕ → Type 0
+Refused text = (k : ℕ) × (1 ≤ k) × (k < 100) × (answerTo text ≡ refused k)
 
-abbrev Shown : List ℕ → Type 0
+abbrev pub Shown : List ℕ → Type 0
 Shown text = (1 ≤ length (heard noLists (callsAsked text) .tasks)) × (answerTo text ≡ shown (listing (replayed text)))
 
--- a verdict is shown
-shows : (r : Solved) → (r .answer ≡ Order) ⊎ (r .answer ≡ Core) → outcome r ≡ shown (listing r)
-shows r (inl e) = rw e
-shows r (inr e) = rw e
+-- the set that the lines' calls make was made by calls, and holds what the reference model hears
+made : (text : List ℕ) → Made (run freshSet (callsAsked text))
+unfolding Made
+made text = (callsAsked text, refl)
 
-answer-kinds : (text : List ℕ) → Refused text ⊎ Shown text
+counts : (text : List ℕ) → run freshSet (callsAsked text) .ntasks ≡ length (heard noLists (callsAsked text) .tasks)
+counts text = ap (λ (s : TaskSet). s .ntasks) (run-holding noLists none-sound (callsAsked text))
+
+-- a text that is read gets what its calls get
+read-outcome : (text : List ℕ) → reading text .refusal ≡ 0 → answerTo text ≡ outcome (replayed text)
+read-outcome text e = rw (eq-eqb (reading text .refusal) 0 e) (ap (λ (s : TaskSet). outcome (solving s)) (reading-runs text e))
+
+pub answer-kinds : (text : List ℕ) → Refused text ⊎ Shown text
 answer-kinds text = go (eqb (reading text .refusal) 0) refl
   where
+    solved : answerTo text ≡ outcome (replayed text) → Refused text ⊎ Shown text
+    solved e =
+        ⊎-elim (λ none.
+        inl (13, omega arith, omega arith, e ∙ sym (ap outcome (solving-13 (run freshSet (callsAsked text)) (made-passes (run freshSet (callsAsked text)) (made text)) (omega (arith, none, counts text))))))
+        (λ some. inr (some, e ∙ outcome-shown (replayed text) (demand-3 (callsAsked text) some .0 .one)))
+        (lt-or-le (length (heard noLists (callsAsked text) .tasks)) 1)
+
+    pos : (k : ℕ) → (k ≡ 0 → ⊥) → 1 ≤ k
+    pos k other = ⊎-elim (λ l. absurd (other (omega (arith, l)))) (λ h. h) (lt-or-le k 1)
+
     go : (b : Bool) → eqb (reading text .refusal) 0 ≡ b → Refused text ⊎ Shown text
-    go false e = inl (reading text .refusal, reading-small text, rw e)
-    go true e = ?
+    go false e = inl (reading text .refusal, pos (reading text .refusal) (eqb-false (reading text .refusal) 0 e), reading-small text, rw e)
+    go true e = solved (read-outcome text (eqb-true (reading text .refusal) 0 e))
 
 -- ---- so the call does what it should
 
-host-shown : (text before : List ℕ) → Shown text → (o : Outcome) → o ≡ fitted (length before) (answerTo text)
-    → HostGets text (hostNumber o) before (bufferAfter o before)
+-- a listing in a buffer, or 9
+host-shown : (text before : List ℕ) → Shown text → (b : Bool)
+    → let o = pick b (shown (listing (replayed text))) (refused 9) in HostGets text (hostNumber o) before (bufferAfter o before)
 unfolding HostGets
-host-shown text before h o e = ?
+host-shown text before h true big = (refl, refl, demand-3 (callsAsked text) (h .0) .0, demand-3 (callsAsked text) (h .0) .1)
+host-shown text before h false big = absurd (omega arith)
 
 pub host-gets : (text before after : List ℕ) (r : ℕ) → r ≡ hostNumber (fitted (length before) (answerTo text))
     → after ≡ bufferAfter (fitted (length before) (answerTo text)) before → HostGets text r before after
 unfolding HostGets
-host-gets text before after r e f = ?
+host-gets text before after r e f =
+    subst₂ (λ (n : ℕ) (bytes : List ℕ). HostGets text n before bytes) (sym e) (sym f) (go (answer-kinds text))
+  where
+    go : Refused text ⊎ Shown text
+        → let o = fitted (length before) (answerTo text) in HostGets text (hostNumber o) before (bufferAfter o before)
+    go (inl h) = rw (h .3) (λ big. absurd (omega (arith, h .2)))
+    go (inr h) = rw (h .1) (host-shown text before h (leb (length (listing (replayed text))) (length before)))
 
 -- and a buffer of maxListing bytes is always long enough
+pub answer-short : (text : List ℕ) → Shown text → length (listing (replayed text)) ≤ maxListing
+answer-short text k =
+    let s = run freshSet (callsAsked text) in
+    listing-short s (made-sized s (made text)) (made-passes s (made text)) (omega (arith, k .0, counts text))
+
 pub answer-fits : (text : List ℕ) (room : ℕ) → maxListing ≤ room → fitted room (answerTo text) ≡ answerTo text
-answer-fits text room h = ?
+answer-fits text room h = go (answer-kinds text)
+  where
+    go : Refused text ⊎ Shown text → fitted room (answerTo text) ≡ answerTo text
+    go (inl k) = rw (k .3)
+    go (inr k) = rw (k .1, le-leb (length (listing (replayed text))) room (omega (arith, answer-short text k)))

@@ -6,7 +6,8 @@ ghost use lib.ListN.{length};
 ghost use Rattle.sets.specs.Onto.{onto};
 ghost use Rattle.listing.specs.Listing.{fitted, bufferAfter};
 ghost use Rattle.listing.specs.Short.{maxListing};
-ghost use Rattle.answer.specs.Answer.{answerTo, lineOf, answered, report};
+ghost use Rattle.answer.specs.Answer.{answerTo, lineOf, answered, badLine, report};
+ghost use Rattle.answer.specs.Answering.{maxBad};
 use decimal::FEED;
 use decimal::TAB;
 use decimal::write;
@@ -44,19 +45,30 @@ pub fn answer(text: &[u8], out: &mut [u8]) -> Answered
     }
 }
 
+// Writes one line `bad`, line, number into the front of a buffer, and says how many bytes that is.
+fn write_bad(out: &mut [u8], line: u64, refusal: u64) -> usize
+    requires { ⌜ maxBad ≤ length (now out) ⌝ }
+    ensures { λ r. ⌜ r ≡ length (badLine line refusal) ⌝ }
+    ensures bytes { λ r. ⌜ now (out .exit) ≡ onto (badLine line refusal) (now (out .entry)) ⌝ }
+    ensures fits { λ r. ⌜ r ≤ length (now (out .entry)) ⌝ }
+{
+    let mut at = bytes::copy(b"bad\t", out);
+    at += write(&mut out[at..], line, TAB);
+    at += write(&mut out[at..], refusal, FEED);
+    at
+}
+
 // Writes what the program `orders` writes for a text: the listing, or one line `bad`, line, number.
 pub fn report(text: &[u8], out: &mut [u8]) -> usize
     requires { ⌜ maxListing ≤ length (now out) ⌝ }
     ensures { λ r. ⌜ r ≡ length (report (now (text .entry))) ⌝ }
     ensures bytes { λ r. ⌜ now (out .exit) ≡ onto (report (now (text .entry))) (now (out .entry)) ⌝ }
+    ensures fits { λ r. ⌜ r ≤ length (now (out .entry)) ⌝ }
 {
     let answered = answer(text, out);
     let refusal = answered.refusal;
     if refusal == 0 {
         return answered.count;
     }
-    let mut at = bytes::copy(b"bad\t", out);
-    at += write(&mut out[at..], answered.line, TAB);
-    at += write(&mut out[at..], refusal, FEED);
-    at
+    write_bad(out, answered.line, refusal)
 }

@@ -1,0 +1,122 @@
+-- `answer::write_bad` meets its contract: the word, and each field into the rest of the buffer. Assumes nothing.
+use mathlib.Core.Path.{refl}
+use mathlib.Core.List.{List, _++_}
+use Prim.Native.Nat.{ℕ, _+_, _≤_}
+use native.Mathlib.Omega.{arith}
+use lib.ListN.{length, length-append}
+use denote.Ref.{now}
+use Rattle.sets.specs.Onto.{Front, withTail, front-in, tail-room, tail-back}
+use Rattle.decimal.specs.Decimal.{tab, feed, field}
+use Rattle.listing.specs.Writing.{few-digits, field-long, field-front, field-fits, copied}
+use Rattle.answer.specs.Answer.{bad}
+use borrow.Author.Needs.{needs}
+use Rattle.answer.proofs.write_bad.Statement.{statement}
+use Rattle.answer.proofs.write_bad.Tie as tie
+
+-- the fields, and the buffer as it was
+module _ (c : tie.Start) where
+  abbrev a : List ℕ
+  a = field (c .args .line) tab
+
+  abbrev b : List ℕ
+  b = field (c .args .refusal) feed
+
+  abbrev was : List ℕ
+  was = now (c .args .out)
+
+  rooms : (length (bad ++ a) ≤ length was) × (length (bad ++ a ++ b) ≤ length was)
+  rooms =
+      let x = length-append bad a in
+      let y = length-append (bad ++ a) b in
+      let digits = few-digits (c .args .line) refl (search needs) in
+      let more = few-digits (c .args .refusal) refl (search needs) in
+      (omega (arith, c .pre, x, y, digits, more, field-long (c .args .line) tab, field-long (c .args .refusal) feed), omega (arith, c .pre, x, y, digits, more, field-long (c .args .line) tab, field-long (c .args .refusal) feed))
+
+-- what is written after each call
+word : (c : tie.After-copy) → let s = c .before .before .before .before in
+    Front bad (was s) (c .copy .result) (c .copy .last .1 .0)
+word c = copied (c .copy .ensures .0) (c .copy .ensures .1)
+
+one : (c : tie.After-write) → let f = c .before .before .before .before in
+    let s = f .before .before .before .before in
+    Front (bad ++ a s) (was s) (f .copy .result + c .write .result)
+    (withTail (f .copy .result) (f .copy .last .1 .0) (c .write .last .0))
+one c = tail-back (word (c .before .before .before .before)) (field-front _ tab (c .write .ensures))
+
+two : (c : tie.After-write2) → let f = c .before .before .before .before in
+    let g = f .before .before .before .before in
+    let s = g .before .before .before .before in
+    let at = g .copy .result + f .write .result in
+    Front (bad ++ a s ++ b s) (was s) (at + c .write2 .result)
+    (withTail at (withTail (g .copy .result) (g .copy .last .1 .0) (f .write .last .0)) (c .write2 .last .0))
+two c = tail-back (one (c .before .before .before .before)) (field-front _ feed (c .write2 .ensures))
+
+slice-aggregate-copy : tie.Need-slice-aggregate-copy
+slice-aggregate-copy c = search needs
+
+copy-requires : tie.Need-copy-requires
+copy-requires c κs = search needs
+
+sub-write : tie.Need-sub-write
+sub-write c = search needs
+
+part-write-start : tie.Need-part-write-start
+part-write-start c = search needs
+
+part-write-end : tie.Need-part-write-end
+part-write-end c = search needs
+
+write-requires : tie.Need-write-requires
+write-requires c κs =
+    let f = c .before .before .before in
+    let s = f .before .before .before .before in
+    field-fits _ tab (tail-room (word f) (a s) (rooms s .0))
+
+add-at : tie.Need-add-at
+add-at c = omega (arith, front-in (one (c .before .before)))
+
+sub-write-2 : tie.Need-sub-write-2
+sub-write-2 c = front-in (one (c .before .before))
+
+part-write-start-2 : tie.Need-part-write-start-2
+part-write-start-2 c = front-in (one (c .before .before))
+
+part-write-end-2 : tie.Need-part-write-end-2
+part-write-end-2 c = search needs
+
+write-requires-2 : tie.Need-write-requires-2
+write-requires-2 c κs =
+    let f = c .before .before .before in
+    let s = f .before .before .before .before .before .before .before .before in
+    field-fits _ feed (tail-room (one f) (b s) (rooms s .1))
+
+add-at-2 : tie.Need-add-at-2
+add-at-2 c = omega (arith, front-in (two (c .before .before)))
+
+same-length : tie.Need-same-length
+same-length c = search needs
+
+returns : tie.Need-returns
+returns c =
+    let f = two (c .before .before) in
+    let s = c .before .before .before .before .before .before .before .before .before .before .before .before .before .before in
+    (f .count, (f .list, omega (arith, f .count, rooms s .1)))
+
+pub write-bad-spec : {M : Type 1} → statement M
+write-bad-spec =
+    tie.close
+    (tie.spec
+    slice-aggregate-copy
+    copy-requires
+    sub-write
+    part-write-start
+    part-write-end
+    write-requires
+    add-at
+    sub-write-2
+    part-write-start-2
+    part-write-end-2
+    write-requires-2
+    add-at-2
+    same-length
+    returns)

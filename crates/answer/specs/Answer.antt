@@ -45,5 +45,5 @@ abbrev pub printed : ℕ → Outcome → List ℕ
 printed line (refused k) = badLine line k
 printed line (shown bytes) = bytes
 
-abbrev pub report : List ℕ → List ℕ
+unfoldable pub report : List ℕ → List ℕ
 report text = printed (lineOf text) (answerTo text)

@@ -6,9 +6,9 @@ use mathlib.Core.Logic.{_⊎_, inl, inr}
 use Prim.Native.Nat.{ℕ, _+_, _≤_}
 use native.Mathlib.Omega.{arith}
 use lib.Dec.{leb}
-use lib.ListN.{length}
+use lib.ListN.{length, take}
 use borrow.Author.Tests.{eq-eqb, ne-eqb}
-use Rattle.sets.specs.Onto.{onto}
+use Rattle.sets.specs.Onto.{onto, front-count}
 use Rattle.taskset.specs.declared.TaskSet.{TaskSet}
 use Rattle.text.specs.declared.Reading.{Reading}
 use Rattle.text.specs.Text.{reading}
@@ -62,19 +62,20 @@ module _ (text buffer : List ℕ) (room : maxListing ≤ length buffer) (a : Ans
   as-answered : (o : Outcome) → fitted (length buffer) (answerTo text) ≡ o → (a ≡ answered (lineOf text) o) × (after ≡ bufferAfter o buffer)
   as-answered o e = subst (λ (p : Outcome). (a ≡ answered (lineOf text) p) × (after ≡ bufferAfter p buffer)) e said
 
-  pub report-shown : a .refusal ≡ 0 → (a .count ≡ length (report text)) × (after ≡ onto (report text) buffer) × (a .count ≤ length buffer)
+  pub report-shown : a .refusal ≡ 0 → (a .count ≡ length (report text)) × (after ≡ onto (report text) buffer)
+  unfolding report
   report-shown good = go (answer-kinds text)
     where
-      go : Refused text ⊎ Shown text → (a .count ≡ length (report text)) × (after ≡ onto (report text) buffer) × (a .count ≤ length buffer)
+      go : Refused text ⊎ Shown text → (a .count ≡ length (report text)) × (after ≡ onto (report text) buffer)
       go (inl h) =
           let is = as-answered (refused (h .0)) (answer-fits text (length buffer) room ∙ h .3) in
           absurd (omega (arith, good, h .1, ap (λ (b : Answered). b .refusal) (is .0)))
       go (inr h) =
           let is = as-answered (shown (listing (replayed text))) (answer-fits text (length buffer) room ∙ h .1) in
-          let count = ap (λ (b : Answered). b .count) (is .0) in
-          rw (h .1) (count, is .1, omega (arith, count, room, answer-short text h))
+          rw (h .1) (ap (λ (b : Answered). b .count) (is .0), is .1)
 
   pub report-bad : (a .refusal ≡ 0 → ⊥) → (report text ≡ badLine (a .line) (a .refusal)) × (after ≡ buffer)
+  unfolding report
   report-bad bad = go (answer-kinds text)
     where
       go : Refused text ⊎ Shown text → (report text ≡ badLine (a .line) (a .refusal)) × (after ≡ buffer)
@@ -84,6 +85,15 @@ module _ (text buffer : List ℕ) (room : maxListing ≤ length buffer) (a : Ans
       go (inr h) =
           let is = as-answered (shown (listing (replayed text))) (answer-fits text (length buffer) room ∙ h .1) in
           absurd (bad (ap (λ (b : Answered). b .refusal) (is .0)))
+
+-- what is printed, with how much of the buffer it is
+abbrev pub Reports : List ℕ → List ℕ → ℕ → List ℕ → Type 0
+Reports text buffer n after =
+    (n ≡ length (report text)) × ((after ≡ onto (report text) buffer) × ((n ≤ length after) × (n ≡ length (take n after))))
+
+pub reports : (text buffer : List ℕ) (n : ℕ) (after : List ℕ) → n ≡ length (report text) → after ≡ onto (report text) buffer
+    → Reports text buffer n after
+reports text buffer n after e f = (e, (f, front-count (report text) buffer after n e f))
 
 -- ---- for a host
 

@@ -2,7 +2,7 @@
 
 ghost use mathlib.Core.Path.{_≡_};
 ghost use Prim.Native.Nat.{_≤_};
-ghost use lib.ListN.{length};
+ghost use lib.ListN.{length, take};
 ghost use Rattle.sets.specs.Onto.{onto};
 ghost use Rattle.listing.specs.Listing.{fitted, bufferAfter};
 ghost use Rattle.listing.specs.Short.{maxListing};
@@ -50,7 +50,6 @@ fn write_bad(out: &mut [u8], line: u64, refusal: u64) -> usize
     requires { ⌜ maxBad ≤ length (now out) ⌝ }
     ensures { λ r. ⌜ r ≡ length (badLine line refusal) ⌝ }
     ensures bytes { λ r. ⌜ now (out .exit) ≡ onto (badLine line refusal) (now (out .entry)) ⌝ }
-    ensures fits { λ r. ⌜ r ≤ length (now (out .entry)) ⌝ }
 {
     let mut at = bytes::copy(b"bad\t", out);
     at += write(&mut out[at..], line, TAB);
@@ -63,7 +62,7 @@ pub fn report(text: &[u8], out: &mut [u8]) -> usize
     requires { ⌜ maxListing ≤ length (now out) ⌝ }
     ensures { λ r. ⌜ r ≡ length (report (now (text .entry))) ⌝ }
     ensures bytes { λ r. ⌜ now (out .exit) ≡ onto (report (now (text .entry))) (now (out .entry)) ⌝ }
-    ensures fits { λ r. ⌜ r ≤ length (now (out .entry)) ⌝ }
+    ensures front { λ r. ⌜ (r ≤ length (now (out .exit))) × (r ≡ length (take r (now (out .exit)))) ⌝ }
 {
     let answered = answer(text, out);
     let refusal = answered.refusal;

@@ -4,11 +4,19 @@ use mathlib.Core.List.{List, [], _∷_, _++_, append-assoc, append-nil}
 use Prim.Native.Nat.{ℕ, suc, _+_, _-_, _≤_, _<_}
 use native.Mathlib.Omega.{arith}
 use lib.ListN.{length, take, drop, set, length-append, length-drop, length-set, drop-of-length-le}
-use lib.Seq.{take-all, take-at, drop-at, drop-cons, drop-drop, drop-set-lt, getD-set-same}
+use lib.Seq.{take-all, take-append-seam, take-at, drop-at, drop-cons, drop-drop, drop-set-lt, getD-set-same}
 
 -- the bytes, and then what stood after their places
 abbrev pub onto : List ℕ → List ℕ → List ℕ
 onto bytes buffer = bytes ++ drop (length bytes) buffer
+
+-- as many as were written stand in front
+pub front-count : (bytes buffer xs : List ℕ) (n : ℕ) → n ≡ length bytes → xs ≡ onto bytes buffer
+    → (n ≤ length xs) × (n ≡ length (take n xs))
+front-count bytes buffer xs n e f = (
+  omega (arith, e, ap length f, length-append bytes (drop (length bytes) buffer)),
+  e ∙ ap length (sym (ap₂ (λ (k : ℕ) (l : List ℕ). take k l) e f ∙ take-append-seam bytes (drop (length bytes) buffer))),
+)
 
 -- more, into the rest of the buffer
 pub onto-more : (xs ys buffer : List ℕ) → xs ++ onto ys (drop (length xs) buffer) ≡ onto (xs ++ ys) buffer

@@ -97,10 +97,7 @@ same-length : tie.Need-same-length
 same-length c = search needs
 
 returns : tie.Need-returns
-returns c =
-    let f = two (c .before .before) in
-    let s = c .before .before .before .before .before .before .before .before .before .before .before .before .before .before in
-    (f .count, (f .list, omega (arith, f .count, rooms s .1)))
+returns c = let f = two (c .before .before) in (f .count, f .list)
 
 pub write-bad-spec : {M : Type 1} → statement M
 write-bad-spec =

@@ -1,3 +1,4 @@
 pub mod Answer
 pub mod Replays
 pub mod Answering
+pub mod Cases

@@ -8,4 +8,3 @@ pub mod Replaying
 pub mod Solving
 pub mod Explained
 pub mod Theorem
-pub mod Cases

@@ -1,0 +1,76 @@
+/*
+ * An example host: reads a text from the file that is named, or from standard
+ * input, and writes the listing to standard output.
+ *
+ *     rt staticlib orders_c
+ *     cc -O2 -Icrates/orders_c/include crates/orders_c/example/host.c target/staticlib/liborders_c.a -o target/host
+ *
+ * Exit status: 0 with a listing, 1 for a refused text, 2 when a file cannot be
+ * read or written.
+ */
+#include <stdio.h>
+#include "orders.h"
+
+static const char *const meanings[] = {
+    "",
+    "a period is out of its range",
+    "an execution time is out of its range",
+    "a deadline is out of its range",
+    "a jitter is out of its range",
+    "a blocking is out of its range",
+    "a rule names one task twice",
+    "a line does not have the right form",
+    "the text is over 16,384 bytes",
+    "the buffer is shorter than the listing",
+    "more than 64 tasks",
+    "a rule names a place that has no task",
+    "more than 128 rules",
+    "the text has no task",
+};
+
+/* Says what a refusal number means. */
+static const char *meaning(uint64_t number)
+{
+    return number < sizeof meanings / sizeof meanings[0] ? meanings[number] : "an unknown number";
+}
+
+/* Reads until the room is full or the file ends; a read may give less than was asked for. */
+static size_t read_all(FILE *in, uint8_t *room, size_t size)
+{
+    size_t len = 0, got;
+    while (len < size && (got = fread(room + len, 1, size - len, in)) > 0)
+        len += got;
+    return len;
+}
+
+int main(int argc, char **argv)
+{
+    /* One byte more than a text may have, so that a longer one is refused. */
+    static uint8_t text[ORDERS_TEXT_MAX + 1];
+    static uint8_t listing[ORDERS_LISTING_MAX];
+
+    FILE *in = argc > 1 ? fopen(argv[1], "rb") : stdin;
+    if (!in) {
+        perror(argv[1]);
+        return 2;
+    }
+    size_t len = read_all(in, text, sizeof text);
+    if (ferror(in)) {
+        perror(argc > 1 ? argv[1] : "standard input");
+        return 2;
+    }
+    if (in != stdin)
+        fclose(in);
+
+    uint64_t result = orders_solve(text, len, listing, sizeof listing);
+    if (result < ORDERS_LISTED) {
+        fprintf(stderr, "refused: %u (%s)\n", (unsigned)result, meaning(result));
+        return 1;
+    }
+    size_t count = (size_t)(result - ORDERS_LISTED);
+    if (fwrite(listing, 1, count, stdout) != count || fflush(stdout) != 0) {
+        perror("standard output");
+        return 2;
+    }
+    return 0;
+}

@@ -1,0 +1,94 @@
+/*
+ * orders.h: one call that takes a text of tasks and rules and gives a listing.
+ *
+ * The text. Each line ends with a line feed, the last one too; fields are
+ * parted by one tab; a number is 1 to 7 decimal digits, and none but 0 itself
+ * begins with 0.
+ *
+ *     t  C  T  D  J  B     a task: execution time, period, deadline, jitter, blocking
+ *     r  u  l              a rule: task u has a higher priority than task l
+ *
+ * Times are whole microseconds. Tasks and rules have places, counted from 0.
+ * A rule may name only tasks that stand on lines before it.
+ *
+ * The listing, in the same form, is an order in which every task meets its
+ * deadline and every rule is kept (one of them, where there are several):
+ *
+ *     order  count         then one line for each level, highest first: level, place, response
+ *
+ * or, where no such order exists, a core: rules under which there is none,
+ * while with any one of them taken out there is one:
+ *
+ *     core  count          then one line for each rule: rule place, u, l
+ *
+ * A core of 0 rules says that there is no such order even without any rule.
+ */
+#ifndef ORDERS_H
+#define ORDERS_H
+
+#include <stddef.h>
+#include <stdint.h>
+
+/* The longest text that is read, in bytes. */
+#define ORDERS_TEXT_MAX 16384
+
+/* A listing never has more bytes than this: a buffer of this size is always enough. */
+#define ORDERS_LISTING_MAX 1289
+
+/*
+ * Results below 100 are refusals:
+ *
+ *      1  a period is not 1 to 1,000,000
+ *      2  an execution time is not 1 to the period
+ *      3  a deadline is not 1 to the period
+ *      4  a jitter is not 0 to the period less 1
+ *      5  a blocking is not 0 to the period
+ *      6  a rule names one task twice
+ *      7  a line does not have the form above
+ *      8  the text has more than 16,384 bytes
+ *      9  the buffer is shorter than the listing
+ *     10  a task line after 64 tasks
+ *     11  a rule names a place that has no task yet
+ *     12  a rule line after 128 rules
+ *     13  the text has no task
+ *
+ * 8 comes first, then the first line that is refused, then 13, then 9.
+ * On one line 7 comes first, then 1 to 5 and 10 for a task, or 6, 11 and 12
+ * for a rule.
+ */
+
+/* A result of ORDERS_LISTED + n says that a listing of n bytes was written. */
+#define ORDERS_LISTED 100
+
+#ifdef __cplusplus
+extern "C" {
+#endif
+
+/*
+ * Reads the text_len bytes at text, and writes the listing to the out_len
+ * bytes at out.
+ *
+ * The result is a refusal number, and then no byte of the buffer has changed;
+ * or it is 100 plus the listing's byte count, and then the listing stands in
+ * the front of the buffer and every byte after it is as it was. A buffer of
+ * exactly the listing's size is enough. No zero byte is put at the end.
+ *
+ * The text is never changed. The call keeps nothing from one call to the next,
+ * allocates nothing, and calls nothing but memcpy and memset, so several
+ * threads may call it at once, each with a buffer of its own.
+ *
+ * A null pointer with length 0 is an empty text or an empty buffer. A caller
+ * must not
+ *   - give a null pointer with another length,
+ *   - give a length beyond the bytes that are behind its pointer,
+ *   - let the text and the buffer overlap,
+ *   - change the text, or touch the buffer, while the call runs.
+ * Nothing is promised for a call that does.
+ */
+uint64_t orders_solve(const uint8_t *text, size_t text_len, uint8_t *out, size_t out_len);
+
+#ifdef __cplusplus
+}
+#endif
+
+#endif

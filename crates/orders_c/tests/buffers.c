@@ -1,0 +1,469 @@
+/*
+ * Calls orders_solve on stored texts with every buffer length from 0 to past
+ * the listing, and looks at the result and at every byte.
+ *
+ *     buffers TEXTS ANSWERS
+ *
+ * TEXTS holds texts joined by form feeds (byte 12), ANSWERS what `orders`
+ * writes for them, one after the other. Each text is then damaged in a few
+ * ways; the right answer is not known there, but every length has to agree
+ * with what a large buffer gave.
+ *
+ *     cc -O1 -g -fsanitize=address,undefined -Icrates/orders_c/include crates/orders_c/tests/buffers.c \
+ *         target/staticlib/liborders_c.a -o target/buffers
+ *
+ * The sanitiser sees what is built with it. For a library that is not, text
+ * and buffer also stand at the edge of a page that nobody may touch.
+ */
+#define _DEFAULT_SOURCE
+#include <signal.h>
+#include <stdio.h>
+#include <stdlib.h>
+#include <string.h>
+#include <sys/mman.h>
+#include <unistd.h>
+#include "orders.h"
+
+enum {
+    GUARD = 16,      /* bytes that stand before and after a guarded buffer */
+    PAST = 24,       /* buffer lengths tried beyond the listing */
+    REFUSED = 40,    /* buffer lengths tried for a refused text */
+    DAMAGED = 6,     /* damaged forms of each text */
+    REGION = 131072, /* bytes between two forbidden pages; no stored text is longer */
+    SHOWN = 20       /* wrong calls that are described */
+};
+
+/* A stretch of bytes. */
+struct bytes {
+    const uint8_t *at;
+    size_t len;
+};
+
+/* What a call has to give: a refusal number, or 0 and a listing. */
+struct answer {
+    unsigned number;
+    struct bytes listing;
+};
+
+static unsigned long texts, calls, wrongs;
+static const char *part = "stored";
+static uint8_t *text_region, *out_region;
+
+/* ---- bytes ---- */
+
+static void *room(size_t size)
+{
+    void *p = malloc(size);
+    if (!p && size > 0) {
+        fprintf(stderr, "no memory\n");
+        exit(2);
+    }
+    return p;
+}
+
+/* Bytes between two pages that nobody may touch. */
+static uint8_t *region(void)
+{
+    size_t page = (size_t)sysconf(_SC_PAGESIZE);
+    uint8_t *p = mmap(NULL, page + REGION + page, PROT_NONE, MAP_PRIVATE | MAP_ANONYMOUS, -1, 0);
+    if (p == MAP_FAILED || mprotect(p + page, REGION, PROT_READ | PROT_WRITE) != 0) {
+        perror("memory");
+        exit(2);
+    }
+    return p + page;
+}
+
+/* A place for so many bytes at the end of a region, or at its start, by turns. */
+static uint8_t *edge(uint8_t *at, size_t len)
+{
+    return calls / 2 % 2 ? at : at + REGION - len;
+}
+
+/* What is said when a forbidden page is touched. */
+static void touched(int signal_number)
+{
+    char said[200];
+    int len = snprintf(said, sizeof said, "wrong: %s text %lu: signal %d, bytes outside the text or the buffer were touched\n",
+                       part, texts, signal_number);
+    _exit(write(STDOUT_FILENO, said, (size_t)len) < 0 ? 2 : 1);
+}
+
+static int same(const uint8_t *a, const uint8_t *b, size_t len)
+{
+    return len == 0 || memcmp(a, b, len) == 0;
+}
+
+/* The byte that call number `call` puts at place i before it is made. */
+static uint8_t filler(unsigned long call, size_t i)
+{
+    uint32_t x = (uint32_t)call * 2654435761u + (uint32_t)i * 2246822519u;
+    x ^= x >> 15;
+    x *= 3266489917u;
+    return (uint8_t)(x >> 24);
+}
+
+static void fill(uint8_t *at, size_t len, unsigned long call)
+{
+    for (size_t i = 0; i < len; i++)
+        at[i] = filler(call, i);
+}
+
+/* Are bytes `from` to `to` as they were filled? */
+static int as_filled(const uint8_t *at, size_t from, size_t to, unsigned long call)
+{
+    for (size_t i = from; i < to; i++)
+        if (at[i] != filler(call, i))
+            return 0;
+    return 1;
+}
+
+/* Damage is the same in every run. */
+static uint32_t draw(uint32_t below)
+{
+    static uint32_t state = 2463534242u;
+    state ^= state << 13;
+    state ^= state >> 17;
+    state ^= state << 5;
+    return below > 0 ? state % below : 0;
+}
+
+/* ---- one call ---- */
+
+static void wrong(struct bytes text, size_t out_len, uint64_t result, const char *what)
+{
+    if (++wrongs > SHOWN)
+        return;
+    printf("wrong: %s text %lu, buffer of %zu bytes, result %llu: %s\n",
+           part, texts, out_len, (unsigned long long)result, what);
+    printf("       text of %zu bytes: ", text.len);
+    for (size_t i = 0; i < text.len && i < 60; i++)
+        printf(text.at[i] > 32 && text.at[i] < 127 ? "%c" : "\\%d", text.at[i]);
+    printf("\n");
+}
+
+/* The result that a buffer of this length has to give. */
+static uint64_t expected(struct answer want, size_t out_len)
+{
+    if (want.number)
+        return want.number;
+    return out_len < want.listing.len ? 9 : ORDERS_LISTED + want.listing.len;
+}
+
+/*
+ * One call on a copy of the text, with a buffer that has so many guard bytes
+ * on each side in its block. Every byte of the block is looked at.
+ */
+static void call_at(struct bytes text, struct answer want, size_t out_len, uint8_t *own, uint8_t *block, size_t guard)
+{
+    unsigned long call = calls;
+    size_t size = guard + out_len + guard;
+    fill(block, size, call);
+    if (text.len > 0)
+        memcpy(own, text.at, text.len);
+    uint64_t result = orders_solve(own, text.len, block + guard, out_len);
+
+    uint64_t due = expected(want, out_len);
+    size_t listed = due < ORDERS_LISTED ? 0 : want.listing.len;
+    if (result != due)
+        wrong(text, out_len, result, "another result was due");
+    else if (!same(block + guard, want.listing.at, listed))
+        wrong(text, out_len, result, "the listing is another one");
+    else if (!as_filled(block, 0, guard, call))
+        wrong(text, out_len, result, "a byte before the buffer changed");
+    else if (!as_filled(block, guard + listed, guard + out_len, call))
+        wrong(text, out_len, result, listed ? "a byte after the listing changed" : "a refused buffer changed");
+    else if (!as_filled(block, guard + out_len, size, call))
+        wrong(text, out_len, result, "a byte after the buffer changed");
+    else if (!same(own, text.at, text.len))
+        wrong(text, out_len, result, "the text changed");
+}
+
+/* The buffer stands between guard bytes; it and the text stand at forbidden pages. */
+static void call_guarded(struct bytes text, struct answer want, size_t out_len)
+{
+    calls++;
+    call_at(text, want, out_len, edge(text_region, text.len), edge(out_region, GUARD + out_len + GUARD), GUARD);
+}
+
+/* Text and buffer are blocks of exactly their sizes, for the sanitiser. */
+static void call_alone(struct bytes text, struct answer want, size_t out_len)
+{
+    uint8_t *own = room(text.len), *block = room(out_len);
+    calls++;
+    call_at(text, want, out_len, own, block, 0);
+    free(block);
+    free(own);
+}
+
+/* Null pointers with length 0: for the buffer, and for an empty text. */
+static void call_null(struct bytes text, struct answer want)
+{
+    uint8_t kept[REFUSED];
+    calls++;
+    uint64_t result = orders_solve(text.at, text.len, NULL, 0);
+    if (result != expected(want, 0))
+        wrong(text, 0, result, "another result was due for a null buffer");
+    if (text.len > 0)
+        return;
+    calls += 2;
+    result = orders_solve(NULL, 0, NULL, 0);
+    if (result != want.number)
+        wrong(text, 0, result, "another result was due for two null pointers");
+    fill(kept, sizeof kept, calls);
+    result = orders_solve(NULL, 0, kept, sizeof kept);
+    if (result != want.number || !as_filled(kept, 0, sizeof kept, calls))
+        wrong(text, sizeof kept, result, "a null text was not an empty one");
+}
+
+/* Each length twice, in both ways. */
+static void call_both(struct bytes text, struct answer want, size_t out_len)
+{
+    call_guarded(text, want, out_len);
+    call_alone(text, want, out_len);
+}
+
+/* The greatest length that is tried for a text, beside ORDERS_LISTING_MAX. */
+static size_t last_length(struct answer want)
+{
+    return want.number ? REFUSED : want.listing.len + PAST;
+}
+
+/* Every length from 0 up to past the listing, one that is always enough, and null. */
+static void call_all(struct bytes text, struct answer want)
+{
+    for (size_t out_len = 0; out_len <= last_length(want); out_len++)
+        call_both(text, want, out_len);
+    call_both(text, want, ORDERS_LISTING_MAX);
+    call_null(text, want);
+}
+
+/* ---- damaged texts ---- */
+
+/* Is this a result that a buffer of ORDERS_LISTING_MAX may give? */
+static int fits(uint64_t result, const uint8_t *out)
+{
+    if (result < ORDERS_LISTED)
+        return result >= 1 && result <= 13 && result != 9;
+    size_t len = (size_t)(result - ORDERS_LISTED);
+    if (result > ORDERS_LISTED + ORDERS_LISTING_MAX || len < 7 || out[len - 1] != '\n')
+        return 0;
+    return memcmp(out, "order\t", 6) == 0 || memcmp(out, "core\t", 5) == 0;
+}
+
+/* Takes the answer in a large buffer as the one that is due for every length. */
+static void call_unknown(struct bytes text)
+{
+    static uint8_t large[ORDERS_LISTING_MAX];
+    unsigned long call = ++calls;
+    fill(large, sizeof large, call);
+    uint64_t result = orders_solve(text.at, text.len, large, sizeof large);
+
+    struct answer want = { 0, { large, 0 } };
+    if (result < ORDERS_LISTED)
+        want.number = (unsigned)result;
+    else
+        want.listing.len = (size_t)(result - ORDERS_LISTED);
+    if (!fits(result, large))
+        wrong(text, sizeof large, result, "no text has this result or this listing");
+    else if (!as_filled(large, want.listing.len, sizeof large, call))
+        wrong(text, sizeof large, result, "a byte changed that is not the listing's");
+    else
+        for (size_t out_len = 0; out_len <= last_length(want); out_len++)
+            call_guarded(text, want, out_len);
+}
+
+/* Form k of a text: cut after a line, cut anywhere, a byte dropped, a byte changed (to zero too). */
+static size_t damage(struct bytes text, uint8_t *form, size_t k)
+{
+    static const uint8_t other[] = "0123456789\t\ntr \r\f\x80\xff";
+    size_t at = draw((uint32_t)text.len);
+    memcpy(form, text.at, text.len);
+    switch (k % 4) {
+    case 0:
+        while (at > 0 && text.at[at - 1] != '\n')
+            at--;
+        return at;
+    case 1:
+        return at;
+    case 2:
+        memmove(form + at, form + at + 1, text.len - at - 1);
+        return text.len - 1;
+    default:
+        form[at] = other[draw(sizeof other)];
+        return text.len;
+    }
+}
+
+static void call_damaged(struct bytes text)
+{
+    if (text.len == 0)
+        return;
+    uint8_t *form = room(text.len);
+    part = "damaged";
+    for (size_t k = 0; k < DAMAGED; k++) {
+        struct bytes damaged = { form, damage(text, form, k) };
+        call_unknown(damaged);
+    }
+    part = "stored";
+    free(form);
+}
+
+/* ---- the largest listings ---- */
+
+/* Adds to a text or a listing that is being made. */
+#define PUT(room, len, ...) ((len) += (size_t)sprintf((char *)(room) + (len), __VA_ARGS__))
+
+/* 64 tasks in a chain of rules, each with response 1000000: 885 bytes. */
+static void call_longest_order(void)
+{
+    static uint8_t text[ORDERS_TEXT_MAX], listing[ORDERS_LISTING_MAX];
+    struct bytes sheet = { text, 0 };
+    struct answer want = { 0, { listing, 0 } };
+    PUT(listing, want.listing.len, "order\t64\n");
+    for (int k = 0; k < 64; k++) {
+        PUT(text, sheet.len, "t\t1\t1000000\t1000000\t%d\t0\n", 999999 - 2 * k);
+        PUT(listing, want.listing.len, "%d\t%d\t1000000\n", k, k);
+    }
+    for (int k = 0; k < 63; k++)
+        PUT(text, sheet.len, "r\t%d\t%d\n", k, k + 1);
+    part = "longest order,";
+    if (want.listing.len != 885)
+        wrong(sheet, 0, 0, "the made listing should have 885 bytes");
+    call_all(sheet, want);
+}
+
+/*
+ * 64 tasks and a circle of 64 rules, twice: the first 64 rules are taken out,
+ * and each of the others is needed. 592 bytes.
+ */
+static void call_longest_core(void)
+{
+    static uint8_t text[ORDERS_TEXT_MAX], listing[ORDERS_LISTING_MAX];
+    struct bytes sheet = { text, 0 };
+    struct answer want = { 0, { listing, 0 } };
+    PUT(listing, want.listing.len, "core\t64\n");
+    for (int k = 0; k < 64; k++)
+        PUT(text, sheet.len, "t\t1\t1000000\t1000000\t0\t0\n");
+    for (int k = 0; k < 128; k++)
+        PUT(text, sheet.len, "r\t%d\t%d\n", k % 64, (k + 1) % 64);
+    for (int k = 0; k < 64; k++)
+        PUT(listing, want.listing.len, "%d\t%d\t%d\n", k + 64, k, (k + 1) % 64);
+    part = "longest core,";
+    if (want.listing.len != 592)
+        wrong(sheet, 0, 0, "the made listing should have 592 bytes");
+    for (size_t out_len = 590; out_len <= 594; out_len++)
+        call_both(sheet, want, out_len);
+    call_both(sheet, want, 0);
+    call_both(sheet, want, ORDERS_LISTING_MAX);
+}
+
+/* ---- stored texts ---- */
+
+static struct bytes load(const char *name)
+{
+    struct bytes all = { NULL, 0 };
+    FILE *in = fopen(name, "rb");
+    uint8_t *p = NULL;
+    size_t size = 0, got;
+    if (!in) {
+        perror(name);
+        exit(2);
+    }
+    do {
+        if (all.len == size && !(p = realloc(p, size = 2 * size + 65536)))
+            exit(2);
+        got = fread(p + all.len, 1, size - all.len, in);
+        all.len += got;
+    } while (got > 0);
+    if (ferror(in)) {
+        perror(name);
+        exit(2);
+    }
+    fclose(in);
+    all.at = p;
+    return all;
+}
+
+/* Takes off what stands before the next such byte; the byte itself is dropped. */
+static struct bytes take_until(struct bytes *rest, uint8_t byte)
+{
+    const uint8_t *end = rest->len ? memchr(rest->at, byte, rest->len) : NULL;
+    struct bytes piece = { rest->at, end ? (size_t)(end - rest->at) : rest->len };
+    size_t gone = piece.len + (end ? 1 : 0);
+    rest->at += gone;
+    rest->len -= gone;
+    return piece;
+}
+
+static void bad_files(const char *what)
+{
+    printf("wrong: the files cannot be used after text %lu: %s\n", texts, what);
+    exit(1);
+}
+
+/* The last number of a line that starts with `word`, or -1. */
+static long last_number(struct bytes line, const char *word)
+{
+    char number[16];
+    size_t len = strlen(word), from = line.len;
+    if (line.len < len || memcmp(line.at, word, len) != 0)
+        return -1;
+    while (from > 0 && line.at[from - 1] != '\t')
+        from--;
+    snprintf(number, sizeof number, "%.*s", (int)(line.len - from), (const char *)line.at + from);
+    return strtol(number, NULL, 10);
+}
+
+/* Takes the next answer off: one `bad` line, or a head line and as many lines as it says. */
+static struct answer take_answer(struct bytes *rest)
+{
+    struct answer want = { 0, { rest->at, 0 } };
+    if (rest->len == 0)
+        bad_files("there are fewer answers than texts");
+    struct bytes head = take_until(rest, '\n');
+    long number = last_number(head, "bad\t"), lines = last_number(head, "order\t");
+    if (number > 0) {
+        want.number = (unsigned)number;
+        return want;
+    }
+    if (lines < 0 && (lines = last_number(head, "core\t")) < 0)
+        bad_files("this is no answer");
+    while (lines-- > 0)
+        take_until(rest, '\n');
+    want.listing.len = (size_t)(rest->at - want.listing.at);
+    return want;
+}
+
+int main(int argc, char **argv)
+{
+    if (argc != 3) {
+        fprintf(stderr, "usage: buffers TEXTS ANSWERS\n");
+        return 2;
+    }
+    setvbuf(stdout, NULL, _IOLBF, 0);
+    signal(SIGSEGV, touched);
+    signal(SIGBUS, touched);
+    text_region = region();
+    out_region = region();
+    struct bytes stored = load(argv[1]), answers = load(argv[2]);
+    const uint8_t *stored_at = stored.at, *answers_at = answers.at, *end = stored.at + stored.len;
+    int more = 1;
+    while (more) {
+        struct bytes text = take_until(&stored, '\f');
+        struct answer want = take_answer(&answers);
+        if (text.len > REGION)
+            bad_files("the text is too long for this test");
+        more = text.at + text.len < end;
+        texts++;
+        call_all(text, want);
+        call_damaged(text);
+    }
+    if (answers.len > 0)
+        bad_files("there are more answers than texts");
+    call_longest_order();
+    call_longest_core();
+    free((void *)stored_at);
+    free((void *)answers_at);
+    printf("buffers: %lu texts, %lu calls, %lu wrong\n", texts, calls, wrongs);
+    return wrongs > 0;
+}

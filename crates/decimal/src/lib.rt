@@ -58,7 +58,7 @@ pub fn width(n: u64) -> usize
 {
     let mut digits = 1;
     let mut rest = n;
-    while 10 <= rest {
+    while 9 < rest {
         rest = rest / 10;
         digits += 1;
     }

@@ -23,6 +23,9 @@ use taskset::task_refusal;
 
 const MAX_TEXT: usize = 16384;
 
+// The refusal of a line that cannot be read.
+const UNREADABLE: u64 = 7;
+
 // The most numbers of a line.
 const MAX_NUMBERS: usize = 5;
 
@@ -147,11 +150,11 @@ pub fn read(text: &[u8]) -> Reading
         let bytes = reader::line_from(text, at);
         at += bytes.len();
         if text.len() <= at {
-            return refused(line, 7, fresh);
+            return refused(line, UNREADABLE, fresh);
         }
         at += 1;
         let Line::Asks(call) = parse(bytes) else {
-            return refused(line, 7, fresh);
+            return refused(line, UNREADABLE, fresh);
         };
         match call {
             Call::AddTask(task) => {

@@ -1,7 +1,7 @@
 -- What a host gets is what replaying the text's lines as calls gives, so demand 3 covers it. Assumes nothing.
 use mathlib.Core.Path.{_≡_, refl, sym, ap, subst₂, _∙_}
 use mathlib.Core.Bool.{Bool, true, false}
-use mathlib.Core.List.{List}
+use mathlib.Core.List.{List, [], _∷_}
 use mathlib.Core.Logic.{_⊎_, inl, inr, ⊎-elim}
 use Prim.Native.Nat.{ℕ, _+_, _≤_, _<_}
 use native.Mathlib.Omega.{arith}
@@ -11,15 +11,24 @@ use borrow.Author.Tests.{eqb-true, eqb-false, eq-eqb, le-leb}
 use Rattle.sets.specs.Choice.{pick, lt-or-le}
 use Rattle.sets.specs.Onto.{onto}
 use Rattle.taskset.specs.declared.TaskSet.{TaskSet}
+use Rattle.taskset.specs.declared.Call.{Call}
+use Rattle.taskset.specs.declared.Call.the-variants.{AddTask, AddRule}
 use Rattle.taskset.specs.Adding.{freshSet}
 use Rattle.taskset.specs.Calls.{run, Made, noLists, heard}
 use Rattle.taskset.specs.Holding.{none-sound, run-holding}
 use Rattle.taskset.specs.Exact.{made-passes, made-sized}
-use Rattle.text.specs.Text.{reading}
-use Rattle.text.specs.Asking.{callsAsked, reading-runs, reading-small}
+use Rattle.decimal.specs.Decimal.{feed}
+use Rattle.text.specs.declared.Line.{Line}
+use Rattle.text.specs.declared.Line.the-variants.{Asks, Unreadable}
+use Rattle.text.specs.Parts.{parts}
+use Rattle.text.specs.Text.{lineIn, reading}
+use Rattle.text.specs.Accepted.{task-line-exactly, rule-line-exactly}
+use Rattle.text.specs.Asking.{asking, askedIn, callsAsked, reading-runs, reading-small}
 use Rattle.verdict.specs.declared.Solved.{Solved}
 use Rattle.verdict.specs.Verdict.{solving}
 use Rattle.verdict.specs.Demand3.{Demand3, Responses}
+use Rattle.verdict.specs.Replay.{callsIn, wordsOf, Words, Asked}
+use Rattle.verdict.specs.Replaying.{every-list}
 use Rattle.verdict.specs.Solving.{solving-13}
 use Rattle.verdict.specs.Theorem.{demand-3}
 use Rattle.listing.specs.Listing.{listing, refused, shown, outcome, fitted, bufferAfter}
@@ -40,6 +49,33 @@ HostGets text r before after =
     × (after ≡ onto (listing (replayed text)) before)
     × Demand3 (heard noLists (callsAsked text)) (replayed text)
     × Responses (heard noLists (callsAsked text)) (replayed text)
+
+-- ---- the lines' calls are words that `replay` can be handed
+
+call-words : (bytes : List ℕ) (c : Call) → lineIn bytes ≡ Asks c → Words (wordsOf c)
+call-words bytes (AddTask t) e =
+    let ns = task-line-exactly bytes t .0 e .1 in (
+      omega arith,
+      (
+        omega (arith, ns .0),
+        (omega (arith, ns .1 .0), (omega (arith, ns .1 .1 .0), (omega (arith, ns .1 .1 .1 .0), (omega (arith, ns .1 .1 .1 .1 .0), tt)))),
+      ),
+    )
+call-words bytes (AddRule r) e =
+    let ns = rule-line-exactly bytes r .0 e .1 in
+    (omega arith, (omega (arith, ns .0), (omega (arith, ns .1 .0), (omega arith, (omega arith, (omega arith, tt))))))
+
+asked-words : (ps : List (List ℕ)) → Asked (askedIn ps)
+unfolding askedIn
+asked-words [] = tt
+asked-words (bytes ∷ rest) = go (lineIn bytes) refl (asked-words rest)
+  where
+    go : (l : Line) → lineIn bytes ≡ l → Asked (askedIn rest) → Asked (asking l (askedIn rest))
+    go Unreadable e h = h
+    go (Asks c) e h = (call-words bytes c e, h)
+
+pub text-words : (text : List ℕ) → (ws : List ℕ) × Words ws × (callsIn ws ≡ callsAsked text)
+text-words text = every-list (callsAsked text) (asked-words (parts feed text))
 
 -- ---- a text is refused by a number below 100, or its verdict is shown
 

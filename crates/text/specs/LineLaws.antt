@@ -151,6 +151,23 @@ line-by (a ∷ b ∷ bs) h = go (eqb a tab) refl
         lettered a (parts tab bs)
         ∙ ap asked (ap (before a) (sym (parts-here tab b bs (eq-eqb b tab h))) ∙ sym (parts-on tab a (b ∷ bs) e))
 
-pub line-numbers : (line : List ℕ) (n : Numbers) → getD line 1 0 ≡ tab → n ≡ numbersIn (parts tab (drop 2 line))
-    → askedBy (getD line 0 0) n ≡ lineIn line
-line-numbers line n h e = ap (askedBy (getD line 0 0)) e ∙ line-by line h
+-- ---- one law for each way out, by the numbers that the code has
+
+module _ (line : List ℕ) (n : Numbers) (tabbed : getD line 1 0 ≡ tab) (read : n ≡ numbersIn (parts tab (drop 2 line))) where
+  abbrev pub isTask : Bool
+  isTask = eqb (getD line 0 0) letterT && eqb (n .count) 5
+
+  abbrev pub isRule : Bool
+  isRule = eqb (getD line 0 0) letterR && eqb (n .count) 2
+
+  said : askedBy (getD line 0 0) n ≡ lineIn line
+  said = ap (askedBy (getD line 0 0)) read ∙ line-by line tabbed
+
+  pub line-task : isTask ≡ true → Asks (AddTask (taskIn (0 ∷ n .values))) ≡ lineIn line
+  line-task t = rw t at said
+
+  pub line-rule : isTask ≡ false → isRule ≡ true → Asks (AddRule (ruleIn (0 ∷ n .values))) ≡ lineIn line
+  line-rule t r = rw (t, r) at said
+
+  pub line-other : isTask ≡ false → isRule ≡ false → Unreadable ≡ lineIn line
+  line-other t r = rw (t, r) at said

@@ -12,8 +12,6 @@ ghost use Rattle.text.specs.Text.{numbersIn, lineIn, refusedAt, reading}
 use decimal::Number;
 use decimal::TAB;
 use taskset::Call;
-use taskset::MAX_RULES;
-use taskset::MAX_TASKS;
 use taskset::Rule;
 use taskset::Task;
 use taskset::TaskIndex;

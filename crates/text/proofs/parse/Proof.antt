@@ -1,6 +1,6 @@
 -- `text::parse` meets its contract: by the letter, and by how many numbers follow it. Assumes nothing.
 use borrow.Author.Needs.{needs}
-use Rattle.text.specs.LineLaws.{line-short, line-untabbed, line-numbers}
+use Rattle.text.specs.LineLaws.{line-short, line-untabbed, line-task, line-rule, line-other}
 use Rattle.text.proofs.parse.Statement.{statement}
 use Rattle.text.proofs.parse.Tie as tie
 
@@ -36,9 +36,7 @@ array-read-t26 c = search needs
 
 returns-3 : tie.Need-returns-3
 returns-3 c =
-    let line = c .before .before .before .before .before .before .before .before .before .args .line .now in
-    let said = line-numbers line (c .before .before .before .read-numbers .result) (c .before .before .before .before .before .if2 .left) (c .before .before .before .read-numbers .ensures) in
-    rw (c .if3 .taken) at said
+    line-task (c .before .before .before .before .before .before .before .before .before .args .line .now) (c .before .before .before .read-numbers .result) (c .before .before .before .before .before .if2 .left) (c .before .before .before .read-numbers .ensures) (c .if3 .taken)
 
 array-read-t31 : tie.Need-array-read-t31
 array-read-t31 c = search needs
@@ -48,15 +46,11 @@ array-read-t36 c = search needs
 
 returns-4 : tie.Need-returns-4
 returns-4 c =
-    let line = c .before .before .before .before .before .before .before .before .before .before .before .args .line .now in
-    let said = line-numbers line (c .before .before .before .before .before .read-numbers .result) (c .before .before .before .before .before .before .before .if2 .left) (c .before .before .before .before .before .read-numbers .ensures) in
-    rw (c .before .before .if3 .left, c .if4 .taken) at said
+    line-rule (c .before .before .before .before .before .before .before .before .before .before .before .args .line .now) (c .before .before .before .before .before .read-numbers .result) (c .before .before .before .before .before .before .before .if2 .left) (c .before .before .before .before .before .read-numbers .ensures) (c .before .before .if3 .left) (c .if4 .taken)
 
 returns-5 : tie.Need-returns-5
 returns-5 c =
-    let line = c .before .before .before .before .before .before .before .before .before .before .before .args .line .now in
-    let said = line-numbers line (c .before .before .before .before .before .read-numbers .result) (c .before .before .before .before .before .before .before .if2 .left) (c .before .before .before .before .before .read-numbers .ensures) in
-    rw (c .before .before .if3 .left, c .if4 .left) at said
+    line-other (c .before .before .before .before .before .before .before .before .before .before .before .args .line .now) (c .before .before .before .before .before .read-numbers .result) (c .before .before .before .before .before .before .before .if2 .left) (c .before .before .before .before .before .read-numbers .ensures) (c .before .before .if3 .left) (c .if4 .left)
 
 pub parse-spec : {M : Type 1} → statement M
 parse-spec =

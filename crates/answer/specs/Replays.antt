@@ -1,15 +1,15 @@
 -- What a host gets is what replaying the text's lines as calls gives, so demand 3 covers it. Assumes nothing.
-use mathlib.Core.Path.{_≡_, refl, sym, ap, subst₂, _∙_}
+use mathlib.Core.Path.{_≡_, refl, sym, ap, subst, subst₂}
 use mathlib.Core.Bool.{Bool, true, false}
-use mathlib.Core.List.{List, [], _∷_}
-use mathlib.Core.Logic.{_⊎_, inl, inr, ⊎-elim}
-use Prim.Native.Nat.{ℕ, _+_, _≤_, _<_}
+use mathlib.Core.List.{List, [], _∷_, _++_}
+use mathlib.Core.Logic.{_⊎_, inl, inr}
+use Prim.Native.Nat.{ℕ, _≤_, _<_}
+use native.Mathlib.Nat.{pos-of-ne-zero}
 use native.Mathlib.Omega.{arith}
 use lib.Dec.{leb, eqb}
 use lib.ListN.{length}
-use borrow.Author.Tests.{eqb-true, eqb-false, eq-eqb, le-leb}
+use borrow.Author.Tests.{eqb-true, eqb-false, le-leb}
 use Rattle.sets.specs.Choice.{pick, lt-or-le}
-use Rattle.sets.specs.Onto.{onto}
 use Rattle.taskset.specs.declared.TaskSet.{TaskSet}
 use Rattle.taskset.specs.declared.Call.{Call}
 use Rattle.taskset.specs.declared.Call.the-variants.{AddTask, AddRule}
@@ -21,49 +21,33 @@ use Rattle.decimal.specs.Decimal.{feed}
 use Rattle.text.specs.declared.Line.{Line}
 use Rattle.text.specs.declared.Line.the-variants.{Asks, Unreadable}
 use Rattle.text.specs.Parts.{parts}
-use Rattle.text.specs.Text.{lineIn, reading}
-use Rattle.text.specs.Accepted.{task-line-exactly, rule-line-exactly}
-use Rattle.text.specs.Asking.{asking, askedIn, callsAsked, reading-runs, reading-small}
-use Rattle.verdict.specs.declared.Solved.{Solved}
+use Rattle.text.specs.Text.{lineIn, reading, asking, askedIn, callsAsked}
+use Rattle.text.specs.Accepted.{taskNumbers, ruleNumbers, Short, task-line-exactly, rule-line-exactly}
+use Rattle.text.specs.Asking.{reading-runs, reading-small}
 use Rattle.verdict.specs.Verdict.{solving}
-use Rattle.verdict.specs.Demand3.{Demand3, Responses}
 use Rattle.verdict.specs.Replay.{callsIn, wordsOf, Words, Asked}
 use Rattle.verdict.specs.Replaying.{every-list}
 use Rattle.verdict.specs.Solving.{solving-13}
 use Rattle.verdict.specs.Theorem.{demand-3}
-use Rattle.listing.specs.Listing.{listing, refused, shown, outcome, fitted, bufferAfter}
+use Rattle.listing.specs.Listing.{listing, Outcome, refused, shown, outcome, fitted, bufferAfter}
 use Rattle.listing.specs.Shown.{outcome-shown}
 use Rattle.listing.specs.Short.{maxListing, listing-short}
 use Rattle.answer.specs.Answer.{answerTo, hostNumber}
-
--- the verdict on the calls that a text's lines ask
-abbrev pub replayed : List ℕ → Solved
-replayed text = solving (run freshSet (callsAsked text))
-
--- where a host gets 100 or more, it is a listing: of that verdict, whole, with the other bytes as they were; and that verdict
--- is what demand 3 says of the lists that the reference model hears
-unfoldable pub HostGets : List ℕ → ℕ → List ℕ → List ℕ → Type 0
-HostGets text r before after =
-    100 ≤ r
-    → (r ≡ 100 + length (listing (replayed text)))
-    × (after ≡ onto (listing (replayed text)) before)
-    × Demand3 (heard noLists (callsAsked text)) (replayed text)
-    × Responses (heard noLists (callsAsked text)) (replayed text)
+use Rattle.answer.specs.Host.{replayed, HostGets}
 
 -- ---- the lines' calls are words that `replay` can be handed
 
+-- numbers of at most 7 digits are words
+short-words : (ns ws : List ℕ) → Short ns → Words ws → Words (ns ++ ws)
+short-words [] ws s h = h
+short-words (n ∷ ns) ws s h = (omega (arith, s .0), short-words ns ws (s .1) h)
+
 call-words : (bytes : List ℕ) (c : Call) → lineIn bytes ≡ Asks c → Words (wordsOf c)
 call-words bytes (AddTask t) e =
-    let ns = task-line-exactly bytes t .0 e .1 in (
-      omega arith,
-      (
-        omega (arith, ns .0),
-        (omega (arith, ns .1 .0), (omega (arith, ns .1 .1 .0), (omega (arith, ns .1 .1 .1 .0), (omega (arith, ns .1 .1 .1 .1 .0), tt)))),
-      ),
-    )
+    (omega arith, short-words (taskNumbers t) [] (task-line-exactly bytes t .0 e .1) tt)
 call-words bytes (AddRule r) e =
-    let ns = rule-line-exactly bytes r .0 e .1 in
-    (omega arith, (omega (arith, ns .0), (omega (arith, ns .1 .0), (omega arith, (omega arith, (omega arith, tt))))))
+    let zeros : Words (0 ∷ 0 ∷ 0 ∷ []) = (omega arith, (omega arith, (omega arith, tt))) in
+    (omega arith, short-words (ruleNumbers r) (0 ∷ 0 ∷ 0 ∷ []) (rule-line-exactly bytes r .0 e .1) zeros)
 
 asked-words : (ps : List (List ℕ)) → Asked (askedIn ps)
 unfolding askedIn
@@ -77,72 +61,81 @@ asked-words (bytes ∷ rest) = go (lineIn bytes) refl (asked-words rest)
 pub text-words : (text : List ℕ) → (ws : List ℕ) × Words ws × (callsIn ws ≡ callsAsked text)
 text-words text = every-list (callsAsked text) (asked-words (parts feed text))
 
--- ---- a text is refused by a number below 100, or its verdict is shown
+-- ---- a text is refused by a number from 1 to 99, or its verdict is shown
 
-abbrev pub Refused : List ℕ → Type 0
-Refused text = (k : ℕ) × (1 ≤ k) × (k < 100) × (answerTo text ≡ refused k)
+module _ (text : List ℕ) where
+  -- the set that the lines' calls make
+  abbrev made : TaskSet
+  made = run freshSet (callsAsked text)
 
-abbrev pub Shown : List ℕ → Type 0
-Shown text = (1 ≤ length (heard noLists (callsAsked text) .tasks)) × (answerTo text ≡ shown (listing (replayed text)))
+  abbrev HasTasks : Type 0
+  HasTasks = 1 ≤ length (heard noLists (callsAsked text) .tasks)
 
--- the set that the lines' calls make was made by calls, and holds what the reference model hears
-made : (text : List ℕ) → Made (run freshSet (callsAsked text))
-unfolding Made
-made text = (callsAsked text, refl)
+  pub data Kind : Outcome → Type 0 where
+    refusal : (k : ℕ) → 1 ≤ k → k < 100 → Kind (refused k)
+    verdict : HasTasks → Kind (shown (listing (replayed text)))
 
-counts : (text : List ℕ) → run freshSet (callsAsked text) .ntasks ≡ length (heard noLists (callsAsked text) .tasks)
-counts text = ap (λ (s : TaskSet). s .ntasks) (run-holding noLists none-sound (callsAsked text))
+  -- it was made by calls, and has as many tasks as the reference model hears
+  is-made : Made made
+  unfolding Made
+  is-made = (callsAsked text, refl)
 
--- a text that is read gets what its calls get
-read-outcome : (text : List ℕ) → reading text .refusal ≡ 0 → answerTo text ≡ outcome (replayed text)
-read-outcome text e = rw (eq-eqb (reading text .refusal) 0 e) (ap (λ (s : TaskSet). outcome (solving s)) (reading-runs text e))
+  counts : made .ntasks ≡ length (heard noLists (callsAsked text) .tasks)
+  counts = ap (λ (s : TaskSet). s .ntasks) (run-holding noLists none-sound (callsAsked text))
 
-pub answer-kinds : (text : List ℕ) → Refused text ⊎ Shown text
-answer-kinds text = go (eqb (reading text .refusal) 0) refl
-  where
-    solved : answerTo text ≡ outcome (replayed text) → Refused text ⊎ Shown text
-    solved e =
-        ⊎-elim (λ none.
-        inl (13, omega arith, omega arith, e ∙ sym (ap outcome (solving-13 (run freshSet (callsAsked text)) (made-passes (run freshSet (callsAsked text)) (made text)) (omega (arith, none, counts text))))))
-        (λ some. inr (some, e ∙ outcome-shown (replayed text) (demand-3 (callsAsked text) some .0 .one)))
-        (lt-or-le (length (heard noLists (callsAsked text) .tasks)) 1)
+  -- so its verdict is shown if it has a task
+  solved-kind : Kind (outcome (replayed text))
+  solved-kind = go (lt-or-le (length (heard noLists (callsAsked text) .tasks)) 1)
+    where
+      go : (length (heard noLists (callsAsked text) .tasks) < 1) ⊎ HasTasks → Kind (outcome (replayed text))
+      go (inl none) =
+          let empty = solving-13 made (made-passes made is-made) (omega (arith, counts)) in
+          subst Kind (ap outcome empty) (refusal 13 (omega arith) (omega arith))
+      go (inr some) =
+          let given = outcome-shown (replayed text) (demand-3 (callsAsked text) some .0 .one) in
+          subst Kind (sym given) (verdict some)
 
-    pos : (k : ℕ) → (k ≡ 0 → ⊥) → 1 ≤ k
-    pos k other = ⊎-elim (λ l. absurd (other (omega (arith, l)))) (λ h. h) (lt-or-le k 1)
+  answer-kind : Kind (answerTo text)
+  answer-kind = go (eqb (reading text .refusal) 0) refl
+    where
+      go : (b : Bool) → eqb (reading text .refusal) 0 ≡ b
+          → Kind (pick b (outcome (solving (reading text .set))) (refused (reading text .refusal)))
+      go false e = refusal _ (pos-of-ne-zero (eqb-false (reading text .refusal) 0 e)) (reading-small text)
+      go true e = rw (reading-runs text (eqb-true (reading text .refusal) 0 e)) solved-kind
 
-    go : (b : Bool) → eqb (reading text .refusal) 0 ≡ b → Refused text ⊎ Shown text
-    go false e = inl (reading text .refusal, pos (reading text .refusal) (eqb-false (reading text .refusal) 0 e), reading-small text, rw e)
-    go true e = solved (read-outcome text (eqb-true (reading text .refusal) 0 e))
+  -- so also in a buffer
+  pub fitted-kind : (room : ℕ) → Kind (fitted room (answerTo text))
+  fitted-kind room = go (answerTo text) answer-kind
+    where
+      short : HasTasks → (b : Bool) → Kind (pick b (shown (listing (replayed text))) (refused 9))
+      short some true = verdict some
+      short some false = refusal 9 (omega arith) (omega arith)
+
+      go : (o : Outcome) → Kind o → Kind (fitted room o)
+      go o (refusal k some few) = refusal k some few
+      go o (verdict some) = short some (leb (length (listing (replayed text))) room)
+
+  -- ---- a buffer of maxListing bytes is always long enough
+
+  pub answer-short : HasTasks → length (listing (replayed text)) ≤ maxListing
+  answer-short some = listing-short made (made-sized made is-made) (made-passes made is-made) (omega (arith, some, counts))
+
+  pub answer-fits : (room : ℕ) → maxListing ≤ room → fitted room (answerTo text) ≡ answerTo text
+  answer-fits room h = go (answerTo text) answer-kind
+    where
+      go : (o : Outcome) → Kind o → fitted room o ≡ o
+      go o (refusal k some few) = refl
+      go o (verdict some) = rw (le-leb (length (listing (replayed text))) room (omega (arith, answer-short some)))
 
 -- ---- so the call does what it should
-
--- a listing in a buffer, or 9
-host-shown : (text before : List ℕ) → Shown text → (b : Bool)
-    → let o = pick b (shown (listing (replayed text))) (refused 9) in HostGets text (hostNumber o) before (bufferAfter o before)
-unfolding HostGets
-host-shown text before h true big = (refl, refl, demand-3 (callsAsked text) (h .0) .0, demand-3 (callsAsked text) (h .0) .1)
-host-shown text before h false big = absurd (omega arith)
 
 pub host-gets : (text before after : List ℕ) (r : ℕ) → r ≡ hostNumber (fitted (length before) (answerTo text))
     → after ≡ bufferAfter (fitted (length before) (answerTo text)) before → HostGets text r before after
 unfolding HostGets
 host-gets text before after r e f =
-    subst₂ (λ (n : ℕ) (bytes : List ℕ). HostGets text n before bytes) (sym e) (sym f) (go (answer-kinds text))
+    subst₂ (λ (n : ℕ) (bytes : List ℕ). HostGets text n before bytes) (sym e) (sym f)
+    (go _ (fitted-kind text (length before)))
   where
-    go : Refused text ⊎ Shown text
-        → let o = fitted (length before) (answerTo text) in HostGets text (hostNumber o) before (bufferAfter o before)
-    go (inl h) = rw (h .3) (λ big. absurd (omega (arith, h .2)))
-    go (inr h) = rw (h .1) (host-shown text before h (leb (length (listing (replayed text))) (length before)))
-
--- and a buffer of maxListing bytes is always long enough
-pub answer-short : (text : List ℕ) → Shown text → length (listing (replayed text)) ≤ maxListing
-answer-short text k =
-    let s = run freshSet (callsAsked text) in
-    listing-short s (made-sized s (made text)) (made-passes s (made text)) (omega (arith, k .0, counts text))
-
-pub answer-fits : (text : List ℕ) (room : ℕ) → maxListing ≤ room → fitted room (answerTo text) ≡ answerTo text
-answer-fits text room h = go (answer-kinds text)
-  where
-    go : Refused text ⊎ Shown text → fitted room (answerTo text) ≡ answerTo text
-    go (inl k) = rw (k .3)
-    go (inr k) = rw (k .1, le-leb (length (listing (replayed text))) room (omega (arith, answer-short text k)))
+    go : (o : Outcome) → Kind text o → HostGets text (hostNumber o) before (bufferAfter o before)
+    go o (refusal k some few) big = absurd (omega arith)
+    go o (verdict some) big = let d = demand-3 (callsAsked text) some in (refl, refl, d .0, d .1)

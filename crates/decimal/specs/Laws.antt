@@ -1,12 +1,12 @@
 -- Laws of written numbers: one digit at a time, the last one last. Assumes nothing.
-use mathlib.Core.Path.{_≡_, refl, ap}
-use mathlib.Core.Bool.{Bool, true, false}
-use mathlib.Core.List.{List, [], _∷_, _++_}
+use mathlib.Core.Path.{_≡_, refl, ap, _∙_}
+use mathlib.Core.List.{[], _∷_, _++_}
+use mathlib.Core.Logic.{_⊎_, inl, inr}
 use Prim.Native.Nat.{ℕ, zero, suc, _+_, _/_, _%_, _≤_, _<_}
 use native.Mathlib.Omega.{arith}
-use lib.Dec.{ltb}
-use borrow.Author.Tests.{lt-ltb, le-ltb, ltb-false}
-use Rattle.sets.specs.Choice.{pick}
+use lib.ListN.{length, length-append}
+use borrow.Author.Tests.{lt-ltb, le-ltb}
+use Rattle.sets.specs.Choice.{lt-or-le}
 use Rattle.decimal.specs.Decimal.{digitsIn, decimal}
 
 -- any number of steps that is enough gives the same digits
@@ -15,15 +15,12 @@ unfolding digitsIn
 enough zero zero n a b = refl
 enough zero (suc g) n a b = let few : n < 10 = omega arith in rw (lt-ltb n 10 few)
 enough (suc f) zero n a b = let few : n < 10 = omega arith in rw (lt-ltb n 10 few)
-enough (suc f) (suc g) n a b = go (ltb n 10) refl (λ h k. enough f g (n / 10) h k)
+enough (suc f) (suc g) n a b = go (lt-or-le n 10) (enough f g (n / 10))
   where
-    go : (c : Bool) → ltb n 10 ≡ c → (n / 10 ≤ f → n / 10 ≤ g → digitsIn f (n / 10) ≡ digitsIn g (n / 10))
-        → pick c ((48 + n) ∷ []) (digitsIn f (n / 10) ++ (48 + n % 10) ∷ [])
-        ≡ pick c ((48 + n) ∷ []) (digitsIn g (n / 10) ++ (48 + n % 10) ∷ [])
-    go true e same = refl
-    go false e same =
-        let many = ltb-false n 10 e in
-        ap (λ (ds : List ℕ). ds ++ (48 + n % 10) ∷ []) (same (omega arith) (omega arith))
+    go : (n < 10) ⊎ (10 ≤ n) → (n / 10 ≤ f → n / 10 ≤ g → digitsIn f (n / 10) ≡ digitsIn g (n / 10))
+        → digitsIn (suc f) n ≡ digitsIn (suc g) n
+    go (inl few) same = rw (lt-ltb n 10 few)
+    go (inr many) same = rw (le-ltb n 10 many, same (omega arith) (omega arith))
 
 -- one digit
 pub decimal-one : (n : ℕ) → n < 10 → decimal n ≡ (48 + n) ∷ []
@@ -36,5 +33,8 @@ pub decimal-more : (n : ℕ) → 10 ≤ n → decimal n ≡ decimal (n / 10) ++ 
 unfolding decimal digitsIn
 decimal-more zero h = absurd (omega arith)
 decimal-more (suc n) h =
-    rw (le-ltb (suc n) 10 h)
-    (ap (λ (ds : List ℕ). ds ++ (48 + suc n % 10) ∷ []) (enough n (suc n / 10) (suc n / 10) (omega arith) (omega arith)))
+    let m = suc n / 10 in rw (le-ltb (suc n) 10 h, enough n m m (omega arith) (omega arith))
+
+-- one more than without the last
+pub decimal-longer : (n : ℕ) → 10 ≤ n → length (decimal n) ≡ length (decimal (n / 10)) + 1
+decimal-longer n h = ap length (decimal-more n h) ∙ length-append (decimal (n / 10)) ((48 + n % 10) ∷ [])

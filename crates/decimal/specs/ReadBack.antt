@@ -23,7 +23,7 @@ value-snoc v [] d = refl
 value-snoc v (b ∷ bs) d = value-snoc (v * 10 + (b - 48)) bs d
 
 -- and they are digits still
-digits-snoc : (ds : List ℕ) (d : ℕ) → T (areDigits ds) → T (isDigit d) → T (areDigits (ds ++ d ∷ []))
+pub digits-snoc : (ds : List ℕ) (d : ℕ) → T (areDigits ds) → T (isDigit d) → T (areDigits (ds ++ d ∷ []))
 unfolding areDigits
 digits-snoc [] d t s = and-intro (isDigit d) true s tt
 digits-snoc (b ∷ bs) d t s =
@@ -99,7 +99,7 @@ decimal-plain (suc n) =
 -- ---- what is read
 
 -- what the test for a digit tells
-digit-bounds : (b : ℕ) → T (isDigit b) → (48 ≤ b) × (b ≤ 57)
+pub digit-bounds : (b : ℕ) → T (isDigit b) → (48 ≤ b) × (b ≤ 57)
 digit-bounds b t = (leb→le 48 b (and-left (leb 48 b) (leb b 57) t), leb→le b 57 (and-right (leb 48 b) (leb b 57) t))
 
 -- k digits after the value v stay below (v + 1) * 10 ^ k
@@ -144,7 +144,7 @@ first-digit b t =
     decimal-one (0 + (b - 48)) (omega arith) ∙ rw same
 
 -- what the test for a number tells, besides that there are digits
-number-parts : (bs : List ℕ) → T (isNumber bs)
+pub number-parts : (bs : List ℕ) → T (isNumber bs)
     → (length bs ≤ maxDigits) × T (areDigits bs) × T (eqb (length bs) 1 || not (eqb (getD bs 0 0) 48))
 unfolding isNumber
 number-parts bs t = search (and-left, and-right, leb→le)

@@ -1,139 +1,110 @@
 -- Laws of reading a number a digit at a time. Assumes nothing.
-use mathlib.Core.Path.{_≡_, refl, sym, ap, subst, _∙_}
-use mathlib.Core.Bool.{Bool, true, false, not, _&&_, _||_, true≢false, false≢true}
-use mathlib.Core.List.{List}
+use mathlib.Core.Path.{_≡_, refl, sym, ap, _∙_}
+use mathlib.Core.Bool.{Bool, true, false, not, _&&_, _||_, true≢false}
+use mathlib.Core.List.{List, [], _∷_}
 use Prim.Native.Nat.{ℕ, zero, suc, _+_, _-_, _*_, _^_, _≤_, _<_}
+use native.Mathlib.Nat.{pow-le-pow-right}
 use native.Mathlib.Numerals.{add-one}
 use native.Mathlib.Omega.{arith}
-use lib.Dec.{leb, ltb, eqb}
-use lib.ListN.{length, getD, drop, drop-of-length-le}
-use lib.Seq.{drop-cons}
-use lib.Pow.{pow-add}
-use borrow.Author.Tests.{ltb-true, ltb-false, le-leb, lt-leb}
-use Rattle.sets.specs.Choice.{pick, and-false, or-false-left, or-false-right}
-use Rattle.decimal.specs.declared.Number.{Number}
+use lib.Dec.{T, ltb, eqb, le→leb}
+use lib.ListN.{length, getD, take}
+use lib.Seq.{take-suc, take-all, length-take-le}
+use borrow.Author.Tests.{ltb-false, le-ltb, lt-leb}
+use Rattle.sets.specs.Choice.{pick, T→true, refuted→false, and-intro, and-left, and-right, or-false-left, or-false-right}
 use Rattle.decimal.specs.declared.Number.the-variants.{Value, Malformed}
-use Rattle.decimal.specs.Decimal.{maxDigits, isDigit, areDigits, valueAfter, value, isNumber, numberIn}
+use Rattle.decimal.specs.Decimal.{maxDigits, isDigit, areDigits, value, isNumber, numberIn}
+use Rattle.decimal.specs.ReadBack.{digits-snoc, value-snoc, digit-bounds, number-bound, number-parts}
 
--- ---- a value stays below its power of ten
-
-pub grows : (i v d : ℕ) → v < 10 ^ i → d < 10 → v * 10 + d < 10 ^ (i + 1)
-grows i v d h k = let more : 10 ^ (i + 1) ≡ 10 ^ i * 10 = pow-add 10 i 1 in omega (arith, more)
-
-ten-up : (k i : ℕ) → 10 ^ i ≤ 10 ^ (i + k)
-ten-up zero i = let e : i ≡ i + 0 = omega arith in omega (arith, ap (λ (j : ℕ). 10 ^ j) e)
-ten-up (suc k) i =
-    let more : 10 ^ (i + k + 1) ≡ 10 ^ (i + k) * 10 = pow-add 10 (i + k) 1 in
-    let e : i + suc k ≡ i + k + 1 = omega arith in
-    omega (arith, ten-up k i, more, ap (λ (j : ℕ). 10 ^ j) e)
-
-pub below : (i : ℕ) → i ≤ maxDigits → 10 ^ i ≤ 10 ^ maxDigits
-below i h =
-    let e : i + (maxDigits - i) ≡ maxDigits = omega arith in
-    subst (λ (j : ℕ). 10 ^ i ≤ 10 ^ j) e (ten-up (maxDigits - i) i)
-
--- ---- one digit more
-
-abbrev pub Upto : List ℕ → ℕ → ℕ → Type 0
-Upto bs v i = (areDigits (drop i bs) ≡ areDigits bs) × (valueAfter v (drop i bs) ≡ value bs) × (v < 10 ^ i)
+-- ---- a digit
 
 -- the test for a byte that is no digit, as the code has it
 abbrev pub noDigit : ℕ → Bool
 noDigit b = ltb b 48 || ltb 57 b
 
-is-digit : (b : ℕ) → noDigit b ≡ false → isDigit b ≡ true
-is-digit b e =
-    rw (le-leb 48 b (ltb-false b 48 (or-false-left (ltb b 48) (ltb 57 b) e)), le-leb b 57 (ltb-false 57 b (or-false-right (ltb b 48) (ltb 57 b) e)))
+pub digit-range : (b : ℕ) → noDigit b ≡ false → (48 ≤ b) × (b ≤ 57)
+digit-range b e = (
+  ltb-false b 48 (or-false-left (ltb b 48) (ltb 57 b) e),
+  ltb-false 57 b (or-false-right (ltb b 48) (ltb 57 b) e),
+)
 
-is-no-digit : (b : ℕ) → noDigit b ≡ true → isDigit b ≡ false
-is-no-digit b e = go (ltb b 48) refl (ltb 57 b) refl e
-  where
-    go : (x : Bool) → ltb b 48 ≡ x → (y : Bool) → ltb 57 b ≡ y → (x || y) ≡ true → isDigit b ≡ false
-    go true f y g h = rw (lt-leb 48 b (ltb-true b 48 f))
-    go false f true g h = rw (lt-leb b 57 (ltb-true 57 b g)) (and-false (leb 48 b))
-    go false f false g h = absurd (false≢true h)
+-- each of several is one
+digit-at : (bs : List ℕ) (i : ℕ) → i < length bs → T (areDigits bs) → T (isDigit (getD bs i 0))
+unfolding areDigits
+digit-at [] i h t = absurd (omega arith)
+digit-at (b ∷ bs) zero h t = and-left (isDigit b) (areDigits bs) t
+digit-at (b ∷ bs) (suc i) h t = digit-at bs i (omega arith) (and-right (isDigit b) (areDigits bs) t)
 
-pub digit-turn : (bs : List ℕ) (v i : ℕ) → i < length bs → noDigit (getD bs i 0) ≡ false → Upto bs v i
-    → Upto bs (v * 10 + (getD bs i 0 - 48)) (i + 1)
-unfolding areDigits valueAfter
-digit-turn bs v i h is u =
-    let high = ltb-false 57 (getD bs i 0) (or-false-right (ltb (getD bs i 0) 48) (ltb 57 (getD bs i 0)) is) in (
-      rw (add-one i) (sym (rw (drop-cons bs i 0 h, is-digit (getD bs i 0) is)) ∙ u .0),
-      rw (add-one i) (sym (rw (drop-cons bs i 0 h)) ∙ u .1),
-      grows i v (getD bs i 0 - 48) (u .2) (omega (arith, high)),
-    )
+-- ---- the digits so far
+
+-- the first i bytes are digits, of the value v
+abbrev pub Upto : List ℕ → ℕ → ℕ → Type 0
+Upto bs v i = T (areDigits (take i bs)) × (v ≡ value (take i bs))
+
+-- one more
+pub upto-more : (bs : List ℕ) (v i b : ℕ) → i < length bs → b ≡ getD bs i 0 → noDigit b ≡ false → Upto bs v i
+    → Upto bs (v * 10 + (b - 48)) (i + 1)
+upto-more bs v i b h e is u =
+    let range = digit-range b is in
+    let digit : T (isDigit b) = search (and-intro, le→leb, range .0, range .1) in
+    rw (add-one i, take-suc bs i 0 h, ← e)
+    (digits-snoc (take i bs) b (u .0) digit, rw (u .1) (sym (value-snoc 0 (take i bs) b)))
+
+-- their value is small
+pub upto-small : (bs : List ℕ) (v i : ℕ) → i ≤ length bs → length bs ≤ maxDigits → Upto bs v i → v < 10 ^ maxDigits
+upto-small bs v i h few u =
+    let long : length (take i bs) ≤ maxDigits = omega (arith, length-take-le i bs h) in
+    omega (arith, u .1, number-bound (take i bs) (u .0), pow-le-pow-right {n = 10} (omega arith) long)
 
 -- ---- one law for each way out
 
-no-number : (bs : List ℕ) → isNumber bs ≡ false → Malformed ≡ numberIn bs
-no-number bs e = rw e
+no-number : (bs : List ℕ) → (T (isNumber bs) → ⊥) → Malformed ≡ numberIn bs
+no-number bs h = rw (refuted→false (isNumber bs) h)
 
 pub read-empty : (bs : List ℕ) → length bs < 1 → Malformed ≡ numberIn bs
 unfolding isNumber
-read-empty bs h = no-number bs (rw (lt-leb 1 (length bs) h))
+read-empty bs h = rw (lt-leb 1 (length bs) h)
 
 pub read-long : (bs : List ℕ) → maxDigits < length bs → Malformed ≡ numberIn bs
-unfolding isNumber
-read-long bs h = no-number bs (rw (le-leb 1 (length bs) (omega arith), lt-leb (length bs) maxDigits h))
+read-long bs h = no-number bs (λ t. omega (arith, number-parts bs t .0))
 
 -- the test for a leading zero, as the code has it
 abbrev pub leading : List ℕ → Bool
 leading bs = not (eqb (length bs) 1) && eqb (getD bs 0 0) 48
 
+not-leading : (a b : Bool) → (a || not b) ≡ not (not a && b)
+not-leading true b = refl
+not-leading false b = refl
+
 pub read-leading : (bs : List ℕ) → leading bs ≡ true → Malformed ≡ numberIn bs
-unfolding isNumber
 read-leading bs e =
-    let rest = leb 1 (length bs) && leb (length bs) maxDigits && areDigits bs in
-    no-number bs (ap (λ (b : Bool). rest && b) (go (eqb (length bs) 1) (eqb (getD bs 0 0) 48) e) ∙ and-false rest)
-  where
-    go : (a b : Bool) → (not a && b) ≡ true → (a || not b) ≡ false
-    go true b e = absurd (false≢true e)
-    go false true e = refl
-    go false false e = absurd (false≢true e)
+    no-number bs (λ t. rw (not-leading (eqb (length bs) 1) (eqb (getD bs 0 0) 48), e) at (number-parts bs t .2))
 
-pub read-stop : (bs : List ℕ) (v i : ℕ) → i < length bs → noDigit (getD bs i 0) ≡ true → Upto bs v i → Malformed ≡ numberIn bs
-unfolding isNumber areDigits
-read-stop bs v i h isnt u =
-    let bad : areDigits bs ≡ false = sym (u .0) ∙ rw (drop-cons bs i 0 h, is-no-digit (getD bs i 0) isnt) in
-    no-number bs (rw (bad, and-false (leb 1 (length bs) && leb (length bs) maxDigits)))
+pub read-stop : (bs : List ℕ) (i b : ℕ) → i < length bs → b ≡ getD bs i 0 → noDigit b ≡ true → Malformed ≡ numberIn bs
+read-stop bs i b h e isnt =
+    no-number bs (λ t. let range = digit-bounds (getD bs i 0) (digit-at bs i h (number-parts bs t .1)) in
+    true≢false (sym isnt ∙ rw (e, le-ltb (getD bs i 0) 48 (range .0), le-ltb 57 (getD bs i 0) (range .1))))
 
-pub read-done : (bs : List ℕ) (v i : ℕ) → length bs ≤ i → 1 ≤ length bs → length bs ≤ maxDigits → leading bs ≡ false → Upto bs v i
-    → Value v ≡ numberIn bs
-unfolding isNumber areDigits valueAfter
+pub read-done : (bs : List ℕ) (v i : ℕ) → length bs ≤ i → 1 ≤ length bs → length bs ≤ maxDigits → leading bs ≡ false
+    → Upto bs v i → Value v ≡ numberIn bs
+unfolding isNumber
 read-done bs v i h some few lead u =
-    let none = drop-of-length-le bs h in
-    let digits : areDigits bs ≡ true = sym (u .0) ∙ rw none in
-    rw (le-leb 1 (length bs) some, le-leb (length bs) maxDigits few, digits, go (eqb (length bs) 1) (eqb (getD bs 0 0) 48) lead)
-    (ap Value (sym (rw none) ∙ u .1))
-  where
-    go : (a b : Bool) → (not a && b) ≡ false → (a || not b) ≡ true
-    go true b e = refl
-    go false true e = absurd (true≢false e)
-    go false false e = refl
+    let all = take-all i bs h in
+    let digits : T (areDigits bs) = rw all at (u .0) in
+    let plain : T (eqb (length bs) 1 || not (eqb (getD bs 0 0) 48)) = rw (not-leading _ _, lead) tt in
+    rw (T→true (isNumber bs) (search (and-intro, le→leb, some, few, digits, plain))) (ap Value (u .1 ∙ ap value all))
 
 -- ---- what an answer says of the bytes
 
--- whether an answer is a number, and which
-isValue : Number → Bool
-isValue (Value v) = true
-isValue Malformed = false
-
-valueOf : Number → ℕ
-valueOf (Value v) = v
-valueOf Malformed = 0
-
 pub number-good : (bs : List ℕ) (v : ℕ) → numberIn bs ≡ Value v → (isNumber bs ≡ true) × (value bs ≡ v)
-unfolding isValue valueOf
-number-good bs v e = go (isNumber bs) refl e
+number-good bs v = go (isNumber bs) refl
   where
     go : (b : Bool) → isNumber bs ≡ b → pick b (Value (value bs)) Malformed ≡ Value v → (isNumber bs ≡ true) × (value bs ≡ v)
-    go true f g = (f, ap valueOf g)
-    go false f g = absurd (false≢true (ap isValue g))
+    go true e f = (e, cc)
+    go false e f = absurd (true≢false (cc))
 
 pub number-bad : (bs : List ℕ) → numberIn bs ≡ Malformed → isNumber bs ≡ false
-unfolding isValue
-number-bad bs e = go (isNumber bs) refl e
+number-bad bs = go (isNumber bs) refl
   where
     go : (b : Bool) → isNumber bs ≡ b → pick b (Value (value bs)) Malformed ≡ Malformed → isNumber bs ≡ false
-    go true f g = absurd (true≢false (ap isValue g))
-    go false f g = f
+    go true e f = absurd (true≢false (cc))
+    go false e f = e

@@ -19,55 +19,60 @@ use Rattle.verdict.specs.Solving.{solving-set, solving-made}
 use Rattle.listing.specs.declared.Row.{Row}
 use Rattle.listing.specs.declared.Table.{Table}
 use Rattle.listing.specs.declared.Listed.{Listed}
-use Rattle.listing.specs.Listing.{levelRow, ruleRow, rowsFor, word, listing, listingWith, Outcome, refused, shown, outcomeFor, outcome, fitted, listed, bufferAfter}
+use Rattle.listing.specs.Listing.{levelRow, ruleRow, rowsFor, word, listing, listingWith, Outcome, refused, shown, outcomeFor, outcome}
 use Rattle.listing.specs.Table.{blankRow, tableOf, rowsIn}
 use Rattle.listing.specs.RowsLaws.{rows-few}
-
--- the rows in a table that holds them
-rows-in : (t : Table) (rs : List Row) → t ≡ tableOf rs → rowsIn t ≡ rs
-rows-in t rs e = ap rowsIn e ∙ take-pad maxRules blankRow rs
+use Rattle.listing.specs.Writing.{Lists}
 
 -- a verdict is shown
 pub outcome-shown : (r : Solved) → (r .answer ≡ Order) ⊎ (r .answer ≡ Core) → outcome r ≡ shown (listing r)
 outcome-shown r (inl e) = rw e
 outcome-shown r (inr e) = rw e
 
-not-shown : (k : ℕ) (bytes : List ℕ) → refused k ≡ shown bytes → ⊥
-not-shown k bytes e = absurd (true≢false (cc))
+-- the outcome of solving, by the answer
+by-answer : (s : TaskSet) (r : Solved) → r ≡ solving s → (a : Answer) → r .answer ≡ a → outcomeFor r a ≡ outcome (solving s)
+by-answer s r solved a e = ap (outcomeFor r) (sym e) ∙ ap outcome solved
 
--- what listing answers and leaves, for an outcome
-abbrev pub Lists : TaskSet → List ℕ → Outcome → Listed → List ℕ → Type 0
-Lists s buffer o r after = (r ≡ listed s (fitted (length buffer) o)) × (after ≡ bufferAfter (fitted (length buffer) o) buffer)
+pub lists-refused : (s : TaskSet) (r : Solved) → r ≡ solving s → (k : ℕ) → r .answer ≡ Refused k → (buffer : List ℕ)
+    → Lists s buffer (outcome (solving s)) (record { refusal = k; count = 0; set = s }) buffer
+lists-refused s r solved k e buffer = rw (sym (by-answer s r solved (Refused k) e)) (refl, refl)
 
-module _ (s : TaskSet) (r : Solved) (solved : r ≡ solving s) where
-  -- the outcome by the answer
-  by-answer : (a : Answer) → r .answer ≡ a → outcomeFor r a ≡ outcome (solving s)
-  by-answer a e = ap (outcomeFor r) (sym e) ∙ ap outcome solved
+-- a set is solved, and the answer is a verdict
+pub record Verdict (s : TaskSet) (r : Solved) (a : Answer) : Type 0 where
+  pub solved : r ≡ solving s
+  pub answer : r .answer ≡ a
+  pub verdict : outcomeFor r a ≡ shown (listing r)
 
-  pub lists-refused : (k : ℕ) → r .answer ≡ Refused k → (buffer : List ℕ)
-      → Lists s buffer (outcome (solving s)) (record { refusal = k; count = 0; set = s }) buffer
-  lists-refused k e buffer = subst (λ (o : Outcome). Lists s buffer o (record { refusal = k; count = 0; set = s }) buffer) (by-answer (Refused k) e) (refl, refl)
+module _ {s : TaskSet} {r : Solved} {a : Answer} (v : Verdict s r a) where
+  -- so it was made by calls, and has few enough tasks and rules
+  pub verdict-few : (r .set .ntasks ≤ maxTasks) × (r .set .nrules ≤ maxRules)
+  verdict-few =
+      let made = solving-made s a (ap (λ (q : Solved). q .answer) (sym (v .solved)) ∙ v .answer)
+      (λ k e. not-shown k (ap (outcomeFor r) (sym e) ∙ v .verdict)) in
+      let same : r .set ≡ s = ap (λ (q : Solved). q .set) (v .solved) ∙ solving-set s in
+      rw same (passes-few s made, passes-few-rules s made)
+    where
+      not-shown : (k : ℕ) → refused k ≡ shown (listing r) → ⊥
+      not-shown k e = absurd (true≢false (cc))
 
-  -- what is shown of a table with the answer's rows
-  pub lists-rows : (a : Answer) → r .answer ≡ a → outcomeFor r a ≡ shown (listing r) → (t : Table) → t ≡ tableOf (rowsFor r a)
-      → shown (listingWith (word a) (rowsIn t)) ≡ outcome (solving s)
-  lists-rows a e verdict t held =
-      ap (λ (rs : List Row). shown (listingWith (word a) rs)) (rows-in t (rowsFor r a) held)
-      ∙ ap (λ (b : Answer). shown (listingWith (word b) (rowsFor r b))) (sym e)
-      ∙ sym verdict ∙ by-answer a e
+  -- and few enough rows
+  rows-fit : (b : Answer) → length (rowsFor r b) ≤ maxRules
+  rows-fit (Refused k) = omega arith
+  rows-fit Order = omega (arith, verdict-few .0, rows-few (λ k. true) (levelRow r) (r .set .ntasks))
+  rows-fit Core = omega (arith, verdict-few .1, rows-few (marked (r .core)) (ruleRow r) (r .set .nrules))
 
-  -- few enough tasks and rules, and so few enough rows
-  pub solved-few : (a : Answer) → r .answer ≡ a → outcomeFor r a ≡ shown (listing r) → (r .set .ntasks ≤ maxTasks) × (r .set .nrules ≤ maxRules)
-  solved-few a e verdict =
-      let made = solving-made s a (ap (λ (q : Solved). q .answer) (sym solved) ∙ e) (λ k f. not-shown k (listing r) (ap (outcomeFor r) (sym f) ∙ verdict)) in
-      let same = ap (λ (q : Solved). q .set) solved ∙ solving-set s in
-      subst (λ (t : TaskSet). (t .ntasks ≤ maxTasks) × (t .nrules ≤ maxRules)) (sym same) (passes-few s made, passes-few-rules s made)
+  module _ {t : Table} (held : t ≡ tableOf (rowsFor r a)) where
+    pub table-few : t .count ≤ maxRules
+    table-few = omega (arith, ap (λ (u : Table). u .count) held, rows-fit a)
 
-  rows-fit : (a : Answer) → (r .set .ntasks ≤ maxTasks) × (r .set .nrules ≤ maxRules) → length (rowsFor r a) ≤ maxRules
-  rows-fit (Refused k) h = omega arith
-  rows-fit Order h = omega (arith, h .0, rows-few (λ k. true) (levelRow r) (r .set .ntasks))
-  rows-fit Core h = omega (arith, h .1, rows-few (marked (r .core)) (ruleRow r) (r .set .nrules))
+    table-shown : shown (listingWith (word a) (rowsIn t)) ≡ outcome (solving s)
+    table-shown =
+        ap (λ (rs : List Row). shown (listingWith (word a) rs)) (ap rowsIn held ∙ take-pad maxRules blankRow (rowsFor r a))
+        ∙ ap (λ (b : Answer). shown (listingWith (word b) (rowsFor r b))) (sym (v .answer))
+        ∙ sym (v .verdict)
+        ∙ by-answer s r (v .solved) a (v .answer)
 
-  pub table-few : (a : Answer) → r .answer ≡ a → outcomeFor r a ≡ shown (listing r) → (t : Table) → t ≡ tableOf (rowsFor r a)
-      → t .count ≤ maxRules
-  table-few a e verdict t held = omega (arith, ap (λ (u : Table). u .count) held, rows-fit a (solved-few a e verdict))
+    -- what is shown of a table with the answer's rows is the outcome
+    pub lists-table : (buffer : List ℕ) (l : Listed) (after : List ℕ)
+        → Lists s buffer (shown (listingWith (word a) (rowsIn t))) l after → Lists s buffer (outcome (solving s)) l after
+    lists-table buffer l after = subst (λ (o : Outcome). Lists s buffer o l after) table-shown

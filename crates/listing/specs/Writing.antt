@@ -13,7 +13,7 @@ use Rattle.decimal.specs.ReadBack.{decimal-width}
 use Rattle.taskset.specs.declared.TaskSet.{TaskSet}
 use Rattle.listing.specs.declared.Row.{Row}
 use Rattle.listing.specs.declared.Listed.{Listed}
-use Rattle.listing.specs.Listing.{rowBytes, rowsBytes, listingWith, shown, fitted, listed, bufferAfter}
+use Rattle.listing.specs.Listing.{rowBytes, rowsBytes, listingWith, Outcome, shown, fitted, listed, bufferAfter}
 use Rattle.listing.specs.Table.{blankRow}
 
 -- ---- widths
@@ -149,19 +149,19 @@ module _ (line : List ℕ) where
 
 -- ---- one law for each way out of `show`
 
--- what showing bytes in a buffer answers and leaves
-abbrev pub Shows : TaskSet → List ℕ → List ℕ → Listed → List ℕ → Type 0
-Shows set bytes buffer r xs =
-    let o = fitted (length buffer) (shown bytes) in
-    (r ≡ listed set o) × (xs ≡ bufferAfter o buffer)
+-- what listing answers and leaves in a buffer, for an outcome
+abbrev pub Lists : TaskSet → List ℕ → Outcome → Listed → List ℕ → Type 0
+Lists set buffer o r xs =
+    let p = fitted (length buffer) o in
+    (r ≡ listed set p) × (xs ≡ bufferAfter p buffer)
 
 pub shows-short : (set : TaskSet) (bytes buffer : List ℕ) → length buffer < length bytes
-    → Shows set bytes buffer (record { refusal = 9; count = 0; set = set }) buffer
+    → Lists set buffer (shown bytes) (record { refusal = 9; count = 0; set = set }) buffer
 shows-short set bytes buffer h = let e = lt-leb (length bytes) (length buffer) h in (rw e, rw e)
 
 pub shows-whole : (set : TaskSet) (bytes buffer xs : List ℕ) (n : ℕ)
     → n ≡ length bytes → n ≤ length buffer → xs ≡ onto bytes buffer
-    → Shows set bytes buffer (record { refusal = 0; count = n; set = set }) xs
+    → Lists set buffer (shown bytes) (record { refusal = 0; count = n; set = set }) xs
 shows-whole set bytes buffer xs n e h f =
     let fits = le-leb (length bytes) (length buffer) (omega arith) in
     (rw fits (ap (λ (k : ℕ). record { refusal = 0; count = k; set = set }) e), rw fits f)

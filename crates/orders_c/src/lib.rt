@@ -4,7 +4,7 @@ ghost use mathlib.Core.Path.{_≡_};
 ghost use lib.ListN.{length};
 ghost use Rattle.listing.specs.Listing.{fitted, bufferAfter};
 ghost use Rattle.answer.specs.Answer.{answerTo, hostNumber};
-ghost use Rattle.answer.specs.Replays.{HostGets};
+ghost use Rattle.answer.specs.Host.{HostGets};
 
 #[no_mangle]
 pub extern "C" fn orders_solve(text: &[u8], out: &mut [u8]) -> u64

@@ -1,9 +1,10 @@
--- Laws of reading a line's fields as numbers, one after the other. Assumes nothing.
+-- A line's fields as the code holds their numbers, and laws of reading them one after the other. Assumes nothing.
 use mathlib.Core.Path.{_≡_, refl, sym, ap, ap₂, _∙_}
-use mathlib.Core.Bool.{Bool, true, false, _&&_}
+use mathlib.Core.Bool.{Bool, true, false, _&&_, and-assoc}
 use mathlib.Core.List.{List, [], _∷_, _++_, map, append-nil, map-append}
 use Prim.Native.Nat.{ℕ, _+_, _≤_, _<_}
 use native.Mathlib.Omega.{arith}
+use lib.Dec.{leb}
 use lib.ListN.{length, set, replicate, length-append, length-map}
 use lib.Seq.{append-snoc}
 use borrow.Author.Tests.{le-leb, lt-leb}
@@ -13,74 +14,79 @@ use Rattle.decimal.specs.declared.Number.the-variants.{Value, Malformed}
 use Rattle.decimal.specs.Decimal.{value, isNumber, numberIn}
 use Rattle.decimal.specs.Reading.{number-good, number-bad}
 use Rattle.text.specs.declared.Numbers.{Numbers}
-use Rattle.text.specs.Text.{areNumbers, maxNumbers, numbersIn}
+use Rattle.text.specs.Text.{areNumbers}
+
+-- the numbers of some fields as an array holds them, and how many they are; none where a field is no number or there are more
+abbrev pub maxNumbers : ℕ
+maxNumbers = 5
+
+abbrev pub numbersBy : Bool → List (List ℕ) → Numbers
+numbersBy true fs = record { values = pad maxNumbers 0 (map value fs); count = length fs }
+numbersBy false fs = record { values = replicate maxNumbers 0; count = 0 }
+
+abbrev pub numbersIn : List (List ℕ) → Numbers
+numbersIn fs = numbersBy (areNumbers fs && leb (length fs) maxNumbers) fs
 
 numbers-append : (fs gs : List (List ℕ)) → areNumbers (fs ++ gs) ≡ (areNumbers fs && areNumbers gs)
 unfolding areNumbers
 numbers-append [] gs = refl
-numbers-append (f ∷ fs) gs = go (isNumber f) (numbers-append fs gs)
-  where
-    go : (b : Bool) → areNumbers (fs ++ gs) ≡ (areNumbers fs && areNumbers gs)
-        → (b && areNumbers (fs ++ gs)) ≡ (b && areNumbers fs && areNumbers gs)
-    go true e = e
-    go false e = refl
+numbers-append (f ∷ fs) gs = rw (numbers-append fs gs) (sym (and-assoc (isNumber f) (areNumbers fs) (areNumbers gs)))
 
--- the first fields are read: they are numbers, and their values are held
+-- the first fields are read: they are numbers, not too many, and their values are held
 pub record Held (fields rest : List (List ℕ)) (values : List ℕ) (count : ℕ) : Type 0 where
   pub done : List (List ℕ)
   pub whole : done ++ rest ≡ fields
   pub good : areNumbers done ≡ true
   pub held : values ≡ pad maxNumbers 0 (map value done)
   pub counted : count ≡ length done
+  pub few : count ≤ maxNumbers
 
 pub held-none : (fields : List (List ℕ)) → Held fields fields (replicate maxNumbers 0) 0
 unfolding areNumbers
-held-none fields = record { done = []; whole = refl; good = refl; held = refl; counted = refl }
-
--- one field more, which is a number
-pub held-more : (fields rest more : List (List ℕ)) (f : List ℕ) (values : List ℕ) (count v : ℕ) → Held fields rest values count
-    → rest ≡ f ∷ more → numberIn f ≡ Value v → count < maxNumbers → Held fields more (set values count v) (count + 1)
-unfolding areNumbers
-held-more fields rest more f values count v h here e room =
-    let (good, is) = number-good f v e in
-    let long : length (map value (h .done)) ≡ count = length-map (h .done) value ∙ sym (h .counted) in
-    record {
-      done = h .done ++ f ∷ [];
-      whole = append-snoc (h .done) f more ∙ ap (λ (fs : List (List ℕ)). h .done ++ fs) (sym here) ∙ h .whole;
-      good = numbers-append (h .done) (f ∷ []) ∙ rw (h .good, good);
-      held =
-          ap₂ (λ (xs : List ℕ) (k : ℕ). set xs k v) (h .held) (sym long)
-          ∙ set-pad maxNumbers 0 (map value (h .done)) v (omega (arith, long))
-          ∙ ap (pad maxNumbers 0) (ap (λ (x : ℕ). map value (h .done) ++ x ∷ []) (sym is) ∙ sym (map-append value (h .done) (f ∷ [])));
-      counted = omega (arith, h .counted, length-append (h .done) (f ∷ []));
-    }
-
--- ---- one law for each way out
+held-none fields = record { done = []; whole = refl; good = refl; held = refl; counted = refl; few = omega arith }
 
 abbrev noNumbers : Numbers
 noNumbers = record { values = replicate maxNumbers 0; count = 0 }
 
--- a field that is no number
-pub numbers-bad : (fields rest more : List (List ℕ)) (f : List ℕ) (values : List ℕ) (count : ℕ) → Held fields rest values count
-    → rest ≡ f ∷ more → numberIn f ≡ Malformed → noNumbers ≡ numbersIn fields
-unfolding areNumbers
-numbers-bad fields rest more f values count h here e =
-    let bad : areNumbers fields ≡ false = ap areNumbers (sym (h .whole)) ∙ numbers-append (h .done) rest ∙ rw (here, h .good, number-bad f e) in
-    rw bad
+module _ {fields rest : List (List ℕ)} {values : List ℕ} {count : ℕ} (h : Held fields rest values count) where
+  -- too many fields
+  pub numbers-many : maxNumbers ≤ count → 0 < length rest → noNumbers ≡ numbersIn fields
+  numbers-many many some =
+      let long = ap length (sym (h .whole)) ∙ length-append (h .done) rest in
+      rw (lt-leb (length fields) maxNumbers (omega (arith, long, h .counted)), and-false (areNumbers fields))
 
--- too many fields
-pub numbers-many : (fields rest : List (List ℕ)) (values : List ℕ) (count : ℕ) → Held fields rest values count
-    → maxNumbers ≤ count → 0 < length rest → noNumbers ≡ numbersIn fields
-numbers-many fields rest values count h many some =
-    let long = ap length (sym (h .whole)) ∙ length-append (h .done) rest in
-    rw (lt-leb (length fields) maxNumbers (omega (arith, long, h .counted)), and-false (areNumbers fields))
+  module _ {f : List ℕ} {more : List (List ℕ)} (next : rest ≡ f ∷ more) where
+    -- the next field is no number
+    pub numbers-bad : numberIn f ≡ Malformed → noNumbers ≡ numbersIn fields
+    unfolding areNumbers
+    numbers-bad e =
+        let same = ap areNumbers (sym (h .whole)) ∙ numbers-append (h .done) rest in
+        let bad : areNumbers fields ≡ false = same ∙ rw (next, h .good, number-bad f e) in
+        rw bad
 
--- the last field
-pub numbers-all : (fields : List (List ℕ)) (values : List ℕ) (count : ℕ) → Held fields [] values count → count ≤ maxNumbers
+    -- the next field is a number
+    pub held-more : {v : ℕ} → numberIn f ≡ Value v → count < maxNumbers → Held fields more (set values count v) (count + 1)
+    unfolding areNumbers
+    held-more {v} e room =
+        let (good, is) = number-good f v e in
+        let long : length (map value (h .done)) ≡ count = length-map (h .done) value ∙ sym (h .counted) in
+        record {
+          done = h .done ++ f ∷ [];
+          whole = append-snoc (h .done) f more ∙ ap (λ (fs : List (List ℕ)). h .done ++ fs) (sym next) ∙ h .whole;
+          good = numbers-append (h .done) (f ∷ []) ∙ rw (h .good, good);
+          held =
+              ap₂ (λ (xs : List ℕ) (k : ℕ). set xs k v) (h .held) (sym long)
+              ∙ set-pad maxNumbers 0 (map value (h .done)) v (omega (arith, long))
+              ∙ rw (map-append value (h .done) (f ∷ []), is);
+          counted = omega (arith, h .counted, length-append (h .done) (f ∷ []));
+          few = omega arith;
+        }
+
+-- all fields are read
+pub numbers-all : {fields : List (List ℕ)} {values : List ℕ} {count : ℕ} → Held fields [] values count
     → record { values = values; count = count } ≡ numbersIn fields
-numbers-all fields values count h few =
+numbers-all {fields} h =
     let all = sym (append-nil (h .done)) ∙ h .whole in
     let good : areNumbers fields ≡ true = ap areNumbers (sym all) ∙ h .good in
-    let long : count ≡ length fields = h .counted ∙ ap length all in
-    let held : values ≡ pad maxNumbers 0 (map value fields) = h .held ∙ ap (λ (fs : List (List ℕ)). pad maxNumbers 0 (map value fs)) all in
-    rw (good, le-leb (length fields) maxNumbers (omega (arith, long))) (λ i. record { values = held i; count = long i })
+    let long : length fields ≤ maxNumbers = omega (arith, h .few, h .counted, ap length all) in
+    rw (good, le-leb (length fields) maxNumbers long, h .held, h .counted, all)

@@ -2,19 +2,18 @@
 use mathlib.Core.Bool.{Bool, true, false, _&&_}
 use mathlib.Core.List.{List, [], _∷_, map}
 use Prim.Native.Nat.{ℕ, suc}
-use lib.Dec.{leb, ltb, eqb}
-use lib.ListN.{length, replicate}
+use lib.Dec.{ltb, eqb}
+use lib.ListN.{length}
 use Rattle.sets.specs.Choice.{pick}
-use Rattle.sets.specs.Pad.{pad}
 use Rattle.decimal.specs.Decimal.{tab, feed, isNumber, value}
 use Rattle.taskset.specs.declared.TaskSet.{TaskSet}
+use Rattle.taskset.specs.declared.Call.{Call}
 use Rattle.taskset.specs.declared.Call.the-variants.{AddTask, AddRule}
 use Rattle.taskset.specs.declared.Added.{Added}
 use Rattle.taskset.specs.Adding.{freshSet}
 use Rattle.taskset.specs.Calls.{taskIn, ruleIn, add}
 use Rattle.text.specs.declared.Line.{Line}
 use Rattle.text.specs.declared.Line.the-variants.{Asks, Unreadable}
-use Rattle.text.specs.declared.Numbers.{Numbers}
 use Rattle.text.specs.declared.Reading.{Reading}
 use Rattle.text.specs.Parts.{parts}
 
@@ -56,17 +55,6 @@ asked fs =
 abbrev pub lineIn : List ℕ → Line
 lineIn bytes = asked (parts tab bytes)
 
--- the numbers of some fields as an array holds them, and how many they are; none where a field is no number or there are more
-abbrev pub maxNumbers : ℕ
-maxNumbers = 5
-
-abbrev pub numbersBy : Bool → List (List ℕ) → Numbers
-numbersBy true fs = record { values = pad maxNumbers 0 (map value fs); count = length fs }
-numbersBy false fs = record { values = replicate maxNumbers 0; count = 0 }
-
-abbrev pub numbersIn : List (List ℕ) → Numbers
-numbersIn fs = numbersBy (areNumbers fs && leb (length fs) maxNumbers) fs
-
 -- ---- a text
 
 abbrev pub refusedAt : ℕ → ℕ → Reading
@@ -98,3 +86,17 @@ readFrom s line (bytes ∷ more ∷ rest) = byLine s line (lineIn bytes) (λ t. 
 -- 8 comes first, at line 0; lines are counted from 1
 unfoldable pub reading : List ℕ → Reading
 reading text = pick (ltb maxText (length text)) (refusedAt 0 8) (readFrom freshSet 1 (parts feed text))
+
+-- ---- the calls that a text's lines ask
+
+-- a line that can't be read asks nothing
+abbrev pub asking : Line → List Call → List Call
+asking Unreadable calls = calls
+asking (Asks c) calls = c ∷ calls
+
+unfoldable pub askedIn : List (List ℕ) → List Call
+askedIn [] = []
+askedIn (bytes ∷ rest) = asking (lineIn bytes) (askedIn rest)
+
+abbrev pub callsAsked : List ℕ → List Call
+callsAsked text = askedIn (parts feed text)

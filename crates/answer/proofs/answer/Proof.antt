@@ -1,5 +1,6 @@
 -- `answer::answer` meets its contract: the text is refused, or its set is listed. Assumes nothing.
 use borrow.Author.Needs.{needs}
+use denote.Ref.{now}
 use Rattle.answer.specs.Answering.{answer-refused, answer-listed}
 use Rattle.answer.proofs.answer.Statement.{statement}
 use Rattle.answer.proofs.answer.Tie as tie
@@ -18,7 +19,11 @@ same-length c = search needs
 
 returns-2 : tie.Need-returns-2
 returns-2 c =
-    answer-listed _ (c .before .before .before .before .before .before .before .before .before .args .out .now) (c .before .before .before .before .before .before .read .result) (c .before .before .before .before .before .before .read .ensures) (c .before .before .before .before .before .if1 .left) (c .before .before .list .result) _ (c .before .before .list .ensures)
+    let l = c .before .before in
+    let e = l .before .before .before in
+    let r = e .before in
+    let s = r .before .before .before in
+    answer-listed _ (now (s .args .out)) _ (r .read .ensures) (e .if1 .left) (l .list .result) _ (l .list .ensures)
 
 pub answer-spec : {M : Type 1} → statement M
 answer-spec = tie.close (tie.spec read-requires returns list-requires same-length returns-2)

@@ -1,13 +1,22 @@
 -- `answer::report` meets its contract: the listing stands in the buffer, or the `bad` line goes where nothing was written.
 -- Assumes nothing.
+use mathlib.Core.List.{List}
+use Prim.Native.Nat.{ℕ}
 use borrow.Author.Needs.{needs}
-use mathlib.Core.Path.{sym, ap, ap₂, _∙_}
-use native.Mathlib.Omega.{arith}
-use lib.ListN.{length}
-use Rattle.sets.specs.Onto.{onto}
-use Rattle.answer.specs.Answering.{report-shown, report-bad, reports}
+use denote.Ref.{now}
+use Rattle.answer.specs.Answering.{report-shown, report-bad}
 use Rattle.answer.proofs.report.Statement.{statement}
 use Rattle.answer.proofs.report.Tie as tie
+
+-- the start of an answer, its text, and the buffer as it was
+abbrev start : tie.After-answer → tie.Start
+start c = c .before .before .before .before
+
+abbrev text : tie.After-answer → List ℕ
+text c = now (start c .args .text)
+
+abbrev was : tie.After-answer → List ℕ
+was c = now (start c .args .out)
 
 answer-requires : tie.Need-answer-requires
 answer-requires c κs = search needs
@@ -17,8 +26,8 @@ same-length c = search needs
 
 returns : tie.Need-returns
 returns c =
-    let shown = report-shown (c .before .before .before .before .before .before .before .args .text .now) (c .before .before .before .before .before .before .before .args .out .now) (c .before .before .before .before .before .before .before .pre) (c .before .before .before .answer .result) (c .before .before .before .answer .last .1 .0) (c .before .before .before .answer .ensures) (c .if1 .taken) in
-    reports (c .before .before .before .before .before .before .before .args .text .now) (c .before .before .before .before .before .before .before .args .out .now) _ _ (shown .0) (shown .1)
+    let a = c .before .before .before in
+    report-shown (text a) (was a) (a .answer .result) _ (a .answer .ensures) (start a .pre) (c .if1 .taken)
 
 write-bad-requires : tie.Need-write-bad-requires
 write-bad-requires c κs = search needs
@@ -28,9 +37,11 @@ same-length-2 c = search needs
 
 returns-2 : tie.Need-returns-2
 returns-2 c =
-    let is = report-bad (c .before .before .before .before .before .before .before .before .before .before .before .args .text .now) (c .before .before .before .before .before .before .before .before .before .before .before .args .out .now) (c .before .before .before .before .before .before .before .before .before .before .before .pre) (c .before .before .before .before .before .before .before .answer .result) (c .before .before .before .before .before .before .before .answer .last .1 .0) (c .before .before .before .before .before .before .before .answer .ensures) (c .before .before .before .before .if1 .left) in
-    let said = c .before .before .write-bad .ensures in
-    reports (c .before .before .before .before .before .before .before .before .before .before .before .args .text .now) (c .before .before .before .before .before .before .before .before .before .before .before .args .out .now) _ _ (said .0 ∙ ap length (sym (is .0))) (said .1 ∙ ap₂ onto (sym (is .0)) (is .1))
+    let w = c .before .before in
+    let e = w .before .before in
+    let a = e .before .before .before in
+    report-bad (text a) (was a) (a .answer .result) _ (a .answer .ensures) (start a .pre) (e .if1 .left) _ _
+    (w .write-bad .ensures)
 
 pub report-spec : {M : Type 1} → statement M
 report-spec =

@@ -1,8 +1,14 @@
 -- `text::parse` meets its contract: by the letter, and by how many numbers follow it. Assumes nothing.
+use mathlib.Core.List.{List}
+use Prim.Native.Nat.{ℕ}
 use borrow.Author.Needs.{needs}
 use Rattle.text.specs.LineLaws.{line-short, line-untabbed, line-task, line-rule, line-other}
 use Rattle.text.proofs.parse.Statement.{statement}
 use Rattle.text.proofs.parse.Tie as tie
+
+-- the line, where its numbers are read
+abbrev line : tie.After-read-numbers → List ℕ
+line c = c .before .before .before .before .before .before .args .line .now
 
 returns : tie.Need-returns
 returns c = line-short _ (c .if1 .taken)
@@ -36,7 +42,8 @@ array-read-t26 c = search needs
 
 returns-3 : tie.Need-returns-3
 returns-3 c =
-    line-task (c .before .before .before .before .before .before .before .before .before .args .line .now) (c .before .before .before .read-numbers .result) (c .before .before .before .before .before .if2 .left) (c .before .before .before .read-numbers .ensures) (c .if3 .taken)
+    let r = c .before .before .before in
+    line-task (line r) (r .read-numbers .result) (r .before .before .if2 .left) (r .read-numbers .ensures) (c .if3 .taken)
 
 array-read-t31 : tie.Need-array-read-t31
 array-read-t31 c = search needs
@@ -46,11 +53,17 @@ array-read-t36 c = search needs
 
 returns-4 : tie.Need-returns-4
 returns-4 c =
-    line-rule (c .before .before .before .before .before .before .before .before .before .before .before .args .line .now) (c .before .before .before .before .before .read-numbers .result) (c .before .before .before .before .before .before .before .if2 .left) (c .before .before .before .before .before .read-numbers .ensures) (c .before .before .if3 .left) (c .if4 .taken)
+    let e = c .before .before in
+    let r = e .before .before .before in
+    line-rule (line r) (r .read-numbers .result) (r .before .before .if2 .left) (r .read-numbers .ensures)
+    (e .if3 .left) (c .if4 .taken)
 
 returns-5 : tie.Need-returns-5
 returns-5 c =
-    line-other (c .before .before .before .before .before .before .before .before .before .before .before .args .line .now) (c .before .before .before .before .before .read-numbers .result) (c .before .before .before .before .before .before .before .if2 .left) (c .before .before .before .before .before .read-numbers .ensures) (c .before .before .if3 .left) (c .if4 .left)
+    let e = c .before .before in
+    let r = e .before .before .before in
+    line-other (line r) (r .read-numbers .result) (r .before .before .if2 .left) (r .read-numbers .ensures)
+    (e .if3 .left) (c .if4 .left)
 
 pub parse-spec : {M : Type 1} → statement M
 parse-spec =

@@ -1,27 +1,69 @@
--- `text::read` meets its contract: what is left of the text, read into the set so far, gives what the whole text gives. Assumes nothing.
+-- `text::read` meets its contract: what is left of the text, read into the set so far, gives what the whole text gives.
+-- Assumes nothing.
 use mathlib.Core.Path.{_≡_, sym, ap, _∙_}
+use mathlib.Core.List.{List}
 use mathlib.Core.Logic.{⊎-elim}
-use Prim.Native.Nat.{_+_, _-_, _^_, _≤_, _<_}
+use Prim.Native.Nat.{ℕ, _+_, _-_, _<_}
 use native.Mathlib.Omega.{arith}
-use lib.ListN.{length, drop}
+use lib.ListN.{length}
 use borrow.Author.Needs.{needs}
+use Rattle.taskset.specs.declared.Call.{Call}
+use Rattle.taskset.specs.declared.TaskSet.{TaskSet}
+use Rattle.taskset.specs.Rows.{maxTasks, maxRules}
 use Rattle.taskset.specs.Laws.{task-taken-only, rule-taken-only}
-use Rattle.taskset.specs.Calls.{Made}
+use Rattle.taskset.specs.Exact.{refusalOf, extended}
 use Rattle.text.specs.declared.Line.the-variants.{Asks}
-use Rattle.decimal.specs.Decimal.{feed}
-use Rattle.text.specs.Parts.{parts}
-use Rattle.text.specs.PartsLaws.{part-within}
-use Rattle.text.specs.Text.{readFrom, reading}
-use Rattle.text.specs.Lines.{text-long, text-starts, text-ends, line-unended, line-unread, line-refused, line-taken}
+use Rattle.text.specs.Text.{lineIn, refusedAt, reading}
+use Rattle.text.specs.Lines.{Left, text-long, text-starts, text-ends, line-within, line-unended, line-unread, line-refused, line-taken}
 use Rattle.text.proofs.read.Statement.{statement}
 use Rattle.text.proofs.read.Tie as tie
 
 abbrev Inv-loop : tie.InvT-loop
-Inv-loop text fresh set₀ at₀ line₀ set at line =
-    (at ≤ length text) × (line ≤ at + 1) × Made set × (readFrom set line (parts feed (drop at text)) ≡ reading text)
+Inv-loop text fresh set₀ at₀ line₀ set at line = Left text at set line
 
 abbrev μ-loop : tie.MeasureT-loop
 μ-loop text fresh set₀ at₀ line₀ set at line = length text - at
+
+-- a line that asks a call: where it was parsed, where it was found, the loop's test before it, the text, and its bytes
+module _ (c : tie.After-known-told Inv-loop μ-loop) where
+  abbrev parsed : tie.After-parse Inv-loop μ-loop
+  parsed = c .before .before .before
+
+  abbrev found : tie.After-line-from Inv-loop μ-loop
+  found = parsed .before .before
+
+  abbrev here : tie.At-loop Inv-loop μ-loop
+  here = found .before .before
+
+  abbrev text : List ℕ
+  text = here .before .before .before .before .args .text .now
+
+  abbrev bytes : List ℕ
+  bytes = found .line-from .result .now
+
+  -- a line feed ends it
+  ended : here .loop .at + length bytes < length text
+  ended = omega arith
+
+  -- whatever the call is, the line asks it; so it is refused, or taken
+  asks : {call : Call} → c .before .call .given .0 .0 ≡ call → lineIn bytes ≡ Asks call
+  asks e = sym (parsed .parse .ensures) ∙ c .before .call .given .1 ∙ ap Asks e
+
+  refused : {call : Call} → c .before .call .given .0 .0 ≡ call → {k : ℕ} → k ≡ refusalOf (here .loop .set) call
+      → (k ≡ 0 → ⊥) → refusedAt (here .loop .line) k ≡ reading text
+  refused e = line-refused (here .loop .inv) (found .line-from .ensures) ended (asks e)
+
+  taken : {call : Call} → c .before .call .given .0 .0 ≡ call → {k : ℕ} → k ≡ refusalOf (here .loop .set) call
+      → k ≡ 0 → {new : TaskSet} → new ≡ extended (here .loop .set) call
+      → Left text (here .loop .at + length bytes + 1) new (here .loop .line + 1)
+  taken e = line-taken (here .loop .inv) (found .line-from .ensures) ended (asks e)
+
+-- a call that is taken finds room
+task-room : (c : tie.Else3 Inv-loop μ-loop) → here (c .before .before .before .before .before) .loop .set .ntasks < maxTasks
+task-room c = task-taken-only _ _ (sym (c .before .task-refusal .ensures) ∙ c .if3 .left) .1
+
+rule-room : (c : tie.Else4 Inv-loop μ-loop) → here (c .before .before .before .before .before) .loop .set .nrules < maxRules
+rule-room c = rule-taken-only _ _ _ (sym (c .before .rule-refusal .ensures) ∙ c .if4 .left) .1
 
 fresh-requires : tie.Need-fresh-requires Inv-loop μ-loop
 fresh-requires c κs = search needs
@@ -33,28 +75,24 @@ returns : tie.Need-returns Inv-loop μ-loop
 returns c = c .refused .ensures ∙ text-long _ (c .before .if1 .taken)
 
 loop-holds : tie.Need-loop-holds Inv-loop μ-loop
-loop-holds c =
-    let start = text-starts (c .before .before .before .args .text .now) (c .before .fresh .result) (omega arith) (c .before .fresh .ensures) in
-    (omega arith, omega arith, start .0, start .1)
+loop-holds c = text-starts _ _ (c .if1 .left) (c .before .fresh .ensures)
 
 line-from-requires : tie.Need-line-from-requires Inv-loop μ-loop
 line-from-requires c κs = search needs
 
 add-at : tie.Need-add-at Inv-loop μ-loop
-add-at c =
-    let fits : length (c .before .before .before .before .before .before .args .text .now) < 2 ^ 64 = search needs in
-    omega (arith, fits, part-within feed (c .before .before .before .before .before .before .args .text .now) (c .before .before .loop .at) (c .line-from .result .now) (c .before .before .loop .inv .0) (c .line-from .ensures))
+add-at c = omega (arith, line-within (c .before .before .loop .inv) (c .line-from .ensures))
 
 refused-requires-2 : tie.Need-refused-requires-2 Inv-loop μ-loop
 refused-requires-2 c κs = search needs
 
 returns-2 : tie.Need-returns-2 Inv-loop μ-loop
 returns-2 c =
-    c .refused2 .ensures ∙ sym (line-unended (c .before .before .before .before .before .before .before .before .args .text .now) (c .before .before .before .before .loop .at) (c .before .before .line-from .result .now) (c .before .before .line-from .ensures) (c .before .before .before .before .loop .set) (c .before .before .before .before .loop .line) (omega arith) (omega arith)) ∙ c .before .before .before .before .loop .inv .3
+    let f = c .before .before in
+    c .refused2 .ensures ∙ line-unended (f .before .before .loop .inv) (f .line-from .ensures) (omega arith) (omega arith)
 
 add-at-2 : tie.Need-add-at-2 Inv-loop μ-loop
-add-at-2 c =
-    let fits : length (c .before .before .before .before .before .before .before .args .text .now) < 2 ^ 64 = search needs in omega (arith, fits)
+add-at-2 c = omega arith
 
 parse-requires : tie.Need-parse-requires Inv-loop μ-loop
 parse-requires c κs = search needs
@@ -70,7 +108,11 @@ refused-requires-3 c κs = search needs
 
 returns-3 : tie.Need-returns-3 Inv-loop μ-loop
 returns-3 c =
-    c .refused3 .ensures ∙ sym (line-unread (c .before .before .before .before .before .before .before .before .before .before .before .args .text .now) (c .before .before .before .before .before .before .before .loop .at) (c .before .before .before .before .before .line-from .result .now) (c .before .before .before .before .before .line-from .ensures) (c .before .before .before .before .before .before .before .loop .set) (c .before .before .before .before .before .before .before .loop .line) (omega arith) (sym (c .before .before .before .parse .ensures) ∙ c .before .enum-told .given .1)) ∙ c .before .before .before .before .before .before .before .loop .inv .3
+    let p = c .before .before .before in
+    let f = p .before .before in
+    c .refused3 .ensures
+    ∙ line-unread (f .before .before .loop .inv) (f .line-from .ensures) (omega arith)
+    (sym (p .parse .ensures) ∙ c .before .enum-told .given .1)
 
 enum-known-call-2 : tie.Need-enum-known-call-2 Inv-loop μ-loop
 enum-known-call-2 c = search needs
@@ -83,21 +125,19 @@ refused-requires-4 c κs = search needs
 
 returns-4 : tie.Need-returns-4 Inv-loop μ-loop
 returns-4 c =
-    let asks = sym (c .before .before .before .before .before .before .before .before .before .parse .ensures) ∙ c .before .before .before .before .before .before .before .call .given .1 ∙ ap Asks (c .before .before .before .before .call2 .given .1) in
+    let r = c .before .before in
+    let a = r .before .before in
     c .refused4 .ensures
-    ∙ sym (line-refused (c .before .before .before .before .before .before .before .before .before .before .before .before .before .before .before .before .before .args .text .now) (c .before .before .before .before .before .before .before .before .before .before .before .before .before .loop .at) (c .before .before .before .before .before .before .before .before .before .before .before .line-from .result .now) (c .before .before .before .before .before .before .before .before .before .before .before .line-from .ensures) (c .before .before .before .before .before .before .before .before .before .before .before .before .before .loop .set) (c .before .before .before .before .before .before .before .before .before .before .before .before .before .loop .line) (omega arith) (c .before .before .before .before .before .before .before .before .before .before .before .before .before .loop .inv .2) _ asks (c .before .before .task-refusal .result) (c .before .before .task-refusal .ensures) (c .before .if3 .taken))
-    ∙ c .before .before .before .before .before .before .before .before .before .before .before .before .before .loop .inv .3
+    ∙ refused (a .before .before) (a .call2 .given .1) (r .task-refusal .ensures) (c .before .if3 .taken)
 
 mul-task : tie.Need-mul-task Inv-loop μ-loop
-mul-task c =
-    let room = task-taken-only _ _ (sym (c .before .task-refusal .ensures) ∙ c .if3 .left) .1 in omega (arith, room)
+mul-task c = omega (arith, task-room c)
 
 element-set-from-task : tie.Need-element-set-from-task Inv-loop μ-loop
-element-set-from-task c = task-taken-only _ _ (sym (c .before .task-refusal .ensures) ∙ c .if3 .left) .1
+element-set-from-task c = task-room c
 
 add-set : tie.Need-add-set Inv-loop μ-loop
-add-set c =
-    let room = task-taken-only _ _ (sym (c .before .task-refusal .ensures) ∙ c .if3 .left) .1 in omega (arith, room)
+add-set c = omega (arith, task-room c)
 
 enum-known-call-3 : tie.Need-enum-known-call-3 Inv-loop μ-loop
 enum-known-call-3 c = search needs
@@ -110,42 +150,35 @@ refused-requires-5 c κs = search needs
 
 returns-5 : tie.Need-returns-5 Inv-loop μ-loop
 returns-5 c =
-    let asks = sym (c .before .before .before .before .before .before .before .before .before .parse .ensures) ∙ c .before .before .before .before .before .before .before .call .given .1 ∙ ap Asks (c .before .before .before .before .call3 .given .1) in
+    let r = c .before .before in
+    let a = r .before .before in
     c .refused5 .ensures
-    ∙ sym (line-refused (c .before .before .before .before .before .before .before .before .before .before .before .before .before .before .before .before .before .args .text .now) (c .before .before .before .before .before .before .before .before .before .before .before .before .before .loop .at) (c .before .before .before .before .before .before .before .before .before .before .before .line-from .result .now) (c .before .before .before .before .before .before .before .before .before .before .before .line-from .ensures) (c .before .before .before .before .before .before .before .before .before .before .before .before .before .loop .set) (c .before .before .before .before .before .before .before .before .before .before .before .before .before .loop .line) (omega arith) (c .before .before .before .before .before .before .before .before .before .before .before .before .before .loop .inv .2) _ asks (c .before .before .rule-refusal .result) (c .before .before .rule-refusal .ensures) (c .before .if4 .taken))
-    ∙ c .before .before .before .before .before .before .before .before .before .before .before .before .before .loop .inv .3
+    ∙ refused (a .before .before) (a .call3 .given .1) (r .rule-refusal .ensures) (c .before .if4 .taken)
 
 mul-rule : tie.Need-mul-rule Inv-loop μ-loop
-mul-rule c =
-    let room = rule-taken-only _ _ _ (sym (c .before .rule-refusal .ensures) ∙ c .if4 .left) .1 in omega (arith, room)
+mul-rule c = omega (arith, rule-room c)
 
 element-set-from-rule : tie.Need-element-set-from-rule Inv-loop μ-loop
-element-set-from-rule c = rule-taken-only _ _ _ (sym (c .before .rule-refusal .ensures) ∙ c .if4 .left) .1
+element-set-from-rule c = rule-room c
 
 add-set-2 : tie.Need-add-set-2 Inv-loop μ-loop
-add-set-2 c =
-    let room = rule-taken-only _ _ _ (sym (c .before .rule-refusal .ensures) ∙ c .if4 .left) .1 in omega (arith, room)
+add-set-2 c = omega (arith, rule-room c)
 
 add-line : tie.Need-add-line Inv-loop μ-loop
-add-line c =
-    let fits : length (c .before .before .before .before .before .before .before .before .before .before .before .before .args .text .now) < 2 ^ 64 = search needs in omega (arith, fits, c .before .before .before .before .before .before .before .before .loop .inv .1)
+add-line c = omega arith
 
 loop-less : tie.Need-loop-less Inv-loop μ-loop
 loop-less c = omega arith
 
 loop-again : tie.Need-loop-again Inv-loop μ-loop
 loop-again c =
-    let inv = c .before .before .before .before .before .before .before .before .loop .inv in
-    let asks = sym (c .before .before .before .before .parse .ensures) ∙ c .before .before .call .given .1 in
-    let step = ⊎-elim
-    (λ a. line-taken (c .before .before .before .before .before .before .before .before .before .before .before .before .args .text .now) (c .before .before .before .before .before .before .before .before .loop .at) (c .before .before .before .before .before .before .line-from .result .now) (c .before .before .before .before .before .before .line-from .ensures) (c .before .before .before .before .before .before .before .before .loop .set) (c .before .before .before .before .before .before .before .before .loop .line) (omega arith) (inv .2) _ (asks ∙ ap Asks (a .1 .given .1)) (a .3 .result) (a .3 .ensures) (a .4 .left) _ (a .5))
-    (λ a. line-taken (c .before .before .before .before .before .before .before .before .before .before .before .before .args .text .now) (c .before .before .before .before .before .before .before .before .loop .at) (c .before .before .before .before .before .before .line-from .result .now) (c .before .before .before .before .before .before .line-from .ensures) (c .before .before .before .before .before .before .before .before .loop .set) (c .before .before .before .before .before .before .before .before .loop .line) (omega arith) (inv .2) _ (asks ∙ ap Asks (a .1 .given .1)) (a .3 .result) (a .3 .ensures) (a .4 .left) _ (a .5))
-    (c .match2 .came) in
-    (omega arith, omega (arith, inv .1), step .0, sym (step .1) ∙ inv .3)
+    ⊎-elim
+    (λ a. taken (c .before) (a .1 .given .1) (a .3 .ensures) (a .4 .left) (a .5))
+    (λ a. taken (c .before) (a .1 .given .1) (a .3 .ensures) (a .4 .left) (a .5))
+    (c .match2 .came)
 
 returns-6 : tie.Need-returns-6 Inv-loop μ-loop
-returns-6 c =
-    text-ends _ _ (c .before .loop .at) (c .before .before .before .before .before .args .text .now) (omega arith) ∙ c .before .loop .inv .3
+returns-6 c = text-ends (c .before .loop .inv) (omega arith)
 
 pub read-spec : {M : Type 1} → statement M
 read-spec =

@@ -1,27 +1,70 @@
 -- `text::read_numbers` meets its contract: the fields before the position are numbers, and held. Assumes nothing.
-use mathlib.Core.Path.{sym, _∙_}
-use mathlib.Core.List.{[]}
-use Prim.Native.Nat.{_-_, _^_, _≤_, _<_}
+use mathlib.Core.Path.{_≡_, sym, _∙_}
+use mathlib.Core.List.{List, [], _∷_}
+use Prim.Native.Nat.{ℕ, _+_, _-_, _^_, _≤_, _<_}
 use native.Mathlib.Omega.{arith}
-use lib.ListN.{length, drop}
+use lib.ListN.{length, drop, set}
 use borrow.Author.Needs.{needs}
 use Rattle.decimal.specs.Decimal.{tab}
 use Rattle.text.specs.Parts.{parts}
-use Rattle.text.specs.PartsLaws.{parts-some, part-within, part-any, part-last, part-step}
-use Rattle.text.specs.Text.{maxNumbers}
-use Rattle.text.specs.Fields.{Held, held-none, held-more, numbers-bad, numbers-many, numbers-all}
+use Rattle.text.specs.PartsLaws.{after, parts-some, part-within, part-first, part-last, part-step}
+use Rattle.text.specs.Fields.{maxNumbers, Held, held-none, held-more, numbers-bad, numbers-many, numbers-all}
 use Rattle.text.proofs.read_numbers.Statement.{statement}
 use Rattle.text.proofs.read_numbers.Tie as tie
 
 abbrev Inv-loop : tie.InvT-loop
 Inv-loop line from none values₀ count₀ at₀ values count at =
-    (at ≤ length line) × (count ≤ maxNumbers) × Held (parts tab (drop from line)) (parts tab (drop at line)) values count
+    (at ≤ length line) × Held (parts tab (drop from line)) (parts tab (drop at line)) values count
 
 abbrev μ-loop : tie.MeasureT-loop
 μ-loop line from none values₀ count₀ at₀ values count at = maxNumbers - count
 
+-- the next field is found: the loop's test before it, the line, and the position past the field
+module _ (c : tie.After-stretch Inv-loop μ-loop) where
+  abbrev here : tie.At-loop Inv-loop μ-loop
+  here = c .before .before
+
+  abbrev line : List ℕ
+  line = here .before .before .args .line .now
+
+  abbrev field : List ℕ
+  field = c .stretch .result .now
+
+  abbrev past : ℕ
+  past = here .loop .at + length field
+
+  -- all the fields, and those that are left
+  abbrev fields : List (List ℕ)
+  fields = parts tab (drop (here .before .before .args .from) line)
+
+  abbrev rest : List (List ℕ)
+  rest = parts tab (drop (here .loop .at) line)
+
+  past-fits : (past ≤ length line) × (length line < 2 ^ 64)
+  past-fits = (part-within tab line (here .loop .at) field (here .loop .inv .0) (c .stretch .ensures), search needs)
+
+  first : rest ≡ field ∷ after tab (drop past line)
+  first = part-first tab line (here .loop .at) field (c .stretch .ensures)
+
+  last : length line ≤ past → rest ≡ field ∷ []
+  last = part-last tab line (here .loop .at) field (c .stretch .ensures)
+
+  step : past < length line → rest ≡ field ∷ parts tab (drop (past + 1) line)
+  step = part-step tab line (here .loop .at) field (c .stretch .ensures)
+
+-- it is a number, and held
+module _ (c : tie.After-known-told Inv-loop μ-loop) where
+  abbrev found : tie.After-stretch Inv-loop μ-loop
+  found = c .before .before .before .before
+
+  held : {more : List (List ℕ)} → rest found ≡ field found ∷ more → let l = here found .loop in
+      Held (fields found) more (set (l .values) (l .count) (c .before .value .given .0 .0)) (l .count + 1)
+  held next =
+      let r = c .before .before .before in
+      held-more (here found .loop .inv .1) next (sym (r .read .ensures) ∙ c .before .value .given .1) (omega arith)
+
 loop-holds : tie.Need-loop-holds Inv-loop μ-loop
-loop-holds c = (c .before .pre, omega arith, held-none _)
+loop-holds c = (c .before .pre, held-none _)
 
 stretch-requires : tie.Need-stretch-requires Inv-loop μ-loop
 stretch-requires c κs = search needs
@@ -37,12 +80,9 @@ enum-told c = search needs
 
 returns : tie.Need-returns Inv-loop μ-loop
 returns c =
-    let line = c .before .before .before .before .before .before .before .args .line .now in
-    let at = c .before .before .before .before .before .loop .at in
-    let field = c .before .before .before .stretch .result .now in
-    let found = c .before .before .before .stretch .ensures in
-    let inv = c .before .before .before .before .before .loop .inv in
-    numbers-bad _ _ _ field _ _ (inv .2) (part-any tab line at field found) (sym (c .before .before .read .ensures) ∙ c .enum-told .given .1)
+    let r = c .before .before in
+    let f = r .before in
+    numbers-bad (here f .loop .inv .1) (first f) (sym (r .read .ensures) ∙ c .enum-told .given .1)
 
 mul-values : tie.Need-mul-values Inv-loop μ-loop
 mul-values c = search needs
@@ -54,52 +94,22 @@ add-count : tie.Need-add-count Inv-loop μ-loop
 add-count c = search needs
 
 add-at : tie.Need-add-at Inv-loop μ-loop
-add-at c =
-    let line = c .before .before .before .before .before .before .before .before .args .line .now in
-    let at = c .before .before .before .before .before .before .loop .at in
-    let field = c .before .before .before .before .stretch .result .now in
-    let found = c .before .before .before .before .stretch .ensures in
-    let inv = c .before .before .before .before .before .before .loop .inv in
-    let within = part-within tab line at field (inv .0) found in
-    let fits : length line < 2 ^ 64 = search needs in
-    omega (arith, within, fits)
+add-at c = omega (arith, past-fits (found c))
 
 returns-2 : tie.Need-returns-2 Inv-loop μ-loop
-returns-2 c =
-    let line = c .before .before .before .before .before .before .before .before .before .args .line .now in
-    let at = c .before .before .before .before .before .before .before .loop .at in
-    let field = c .before .before .before .before .before .stretch .result .now in
-    let found = c .before .before .before .before .before .stretch .ensures in
-    let inv = c .before .before .before .before .before .before .before .loop .inv in
-    let last = part-last tab line at field found (omega arith) in
-    numbers-all _ _ _ (held-more _ _ [] field _ _ _ (inv .2) last (sym (c .before .before .before .before .read .ensures) ∙ c .before .before .value .given .1) (omega arith)) (omega arith)
+returns-2 c = let k = c .before in numbers-all (held k (last (found k) (omega arith)))
 
 add-at-2 : tie.Need-add-at-2 Inv-loop μ-loop
-add-at-2 c =
-    let line = c .before .before .before .before .before .before .before .before .before .args .line .now in
-    let at = c .before .before .before .before .before .before .before .loop .at in
-    let field = c .before .before .before .before .before .stretch .result .now in
-    let found = c .before .before .before .before .before .stretch .ensures in
-    let inv = c .before .before .before .before .before .before .before .loop .inv in
-    let fits : length line < 2 ^ 64 = search needs in
-    omega (arith, fits)
+add-at-2 c = omega (arith, past-fits (found (c .before)))
 
 loop-less : tie.Need-loop-less Inv-loop μ-loop
 loop-less c = omega arith
 
 loop-again : tie.Need-loop-again Inv-loop μ-loop
-loop-again c =
-    let line = c .before .before .before .before .before .before .before .before .before .args .line .now in
-    let at = c .before .before .before .before .before .before .before .loop .at in
-    let field = c .before .before .before .before .before .stretch .result .now in
-    let found = c .before .before .before .before .before .stretch .ensures in
-    let inv = c .before .before .before .before .before .before .before .loop .inv in
-    let step = part-step tab line at field found (omega arith) in
-    (omega arith, omega arith, held-more _ _ _ field _ _ _ (inv .2) step (sym (c .before .before .before .before .read .ensures) ∙ c .before .before .value .given .1) (omega arith))
+loop-again c = let k = c .before in (omega arith, held k (step (found k) (omega arith)))
 
 returns-3 : tie.Need-returns-3 Inv-loop μ-loop
-returns-3 c =
-    numbers-many _ _ _ _ (c .before .loop .inv .2) (omega arith) (parts-some tab (drop (c .before .loop .at) (c .before .before .before .args .line .now)))
+returns-3 c = numbers-many (c .before .loop .inv .1) (omega arith) (parts-some tab _)
 
 pub read-numbers-spec : {M : Type 1} → statement M
 read-numbers-spec =

@@ -1,6 +1,6 @@
--- `text::stretch` meets its contract. The loop's invariant: `end` stands from `at` to the length, and no byte between the two is the mark.
--- So at the mark, or at the end of the bytes, what stands between is what the contract says. The measure is what is left of the length. Assumes nothing.
-use Prim.Native.Nat.{_≤_, _-_}
+-- `text::stretch` meets its contract. The loop's invariant: no byte from `at` up to `end` is the mark; so at the mark, or at
+-- the end of the bytes, what stands between the two is what the contract says. Assumes nothing.
+use Prim.Native.Nat.{_-_}
 use native.Mathlib.Omega.{arith}
 use borrow.Author.Needs.{needs}
 use lib.ListN.{length}
@@ -9,7 +9,7 @@ use Rattle.text.proofs.stretch.Statement.{statement}
 use Rattle.text.proofs.stretch.Tie as tie
 
 abbrev Inv-loop : tie.InvT-loop
-Inv-loop bytes at mark end₀ end = (at ≤ end) × (end ≤ length bytes) × Passed mark bytes at end
+Inv-loop bytes at mark end₀ end = Passed mark bytes at end
 
 abbrev μ-loop : tie.MeasureT-loop
 μ-loop bytes at mark end₀ end = length bytes - end
@@ -21,7 +21,7 @@ returns : tie.Need-returns Inv-loop μ-loop
 returns c = let a = c .before .before .args in upTo-end (a .mark) (a .bytes .now) (a .at) (omega arith)
 
 loop-holds : tie.Need-loop-holds Inv-loop μ-loop
-loop-holds c = (omega arith, omega arith, none-passed _ _ _)
+loop-holds c = none-passed _ _ _ (omega arith)
 
 shared-slice-read-if2 : tie.Need-shared-slice-read-if2 Inv-loop μ-loop
 shared-slice-read-if2 c = search needs
@@ -36,7 +36,7 @@ part-result-end : tie.Need-part-result-end Inv-loop μ-loop
 part-result-end c = search needs
 
 returns-2 : tie.Need-returns-2 Inv-loop μ-loop
-returns-2 c = mark-found _ _ _ _ (c .before .before .before .before .loop .inv .2) (omega arith) (c .before .if2 .taken)
+returns-2 c = mark-found (c .before .before .before .before .loop .inv) (omega arith) (c .before .if2 .taken)
 
 add-end : tie.Need-add-end Inv-loop μ-loop
 add-end c = search needs
@@ -45,7 +45,7 @@ loop-less : tie.Need-loop-less Inv-loop μ-loop
 loop-less c = search needs
 
 loop-again : tie.Need-loop-again Inv-loop μ-loop
-loop-again c = (omega arith, omega arith, one-passed _ _ _ _ (c .before .before .before .loop .inv .2) (omega arith) (omega arith) (c .if2 .left))
+loop-again c = one-passed (c .before .before .before .loop .inv) (omega arith) (c .if2 .left)
 
 sub-result-2 : tie.Need-sub-result-2 Inv-loop μ-loop
 sub-result-2 c = search needs
@@ -57,7 +57,7 @@ part-result-end-2 : tie.Need-part-result-end-2 Inv-loop μ-loop
 part-result-end-2 c = search needs
 
 returns-3 : tie.Need-returns-3 Inv-loop μ-loop
-returns-3 c = no-mark _ _ _ _ (c .before .before .loop .inv .2) (omega arith)
+returns-3 c = no-mark (c .before .before .loop .inv) (omega arith)
 
 pub stretch-spec : {M : Type 1} → statement M
 stretch-spec =

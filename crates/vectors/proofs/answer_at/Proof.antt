@@ -1,9 +1,7 @@
 -- `vectors::answer_at` meets its contract: the next text starts after this one. Assumes nothing.
 use borrow.Author.Needs.{needs}
 use native.Mathlib.Omega.{arith}
-use lib.ListN.{replicate}
-use Rattle.answer.specs.Answer.{report}
-use Rattle.sets.specs.Onto.{front-count}
+use denote.Ref.{now}
 use Rattle.text.specs.PartsLaws.{part-within}
 use Rattle.vectors.proofs.answer_at.Statement.{statement}
 use Rattle.vectors.proofs.answer_at.Tie as tie
@@ -34,8 +32,10 @@ add-result-2 c = search needs
 
 returns : tie.Need-returns
 returns c =
-    let within = part-within _ (c .before .before .before .before .before .before .before .args .texts .now) (c .before .before .before .before .before .before .before .args .at) (c .before .before .before .before .before .stretch .result .now) (c .before .before .before .before .before .before .before .pre) (c .before .before .before .before .before .stretch .ensures) in
-    (omega arith, omega (arith, within))
+    let t = c .before .before .before .before .before in
+    let s = t .before .before in
+    let within = part-within _ (now (s .args .texts)) (s .args .at) (now (t .stretch .result)) (s .pre) in
+    (omega arith, omega (arith, within (t .stretch .ensures)))
 
 pub answer-at-spec : {M : Type 1} → statement M
 answer-at-spec =

@@ -1,5 +1,7 @@
--- `text::reader::line` meets its contract: a walk of its MIR, by hand. The struct is taken apart, and `stretch` is called on the slice, the number and the line feed. All that the proof knows of `stretch` is that it meets its contract.
--- The struct is Copy: what it owns is had twice, one copy is kept whole for the exit, and of the other what text owns goes to the callee, beside the lifetime's token, which comes back. The slice that the callee hands back is the result as it is.
+-- `text::reader::line` meets its contract: a walk of its MIR, by hand. The struct is taken apart, and `stretch` is called on
+-- the slice, the number and the line feed. All that the proof knows of `stretch` is that it meets its contract.
+-- The struct is Copy: what it owns is had twice, one copy is kept whole for the exit, and of the other what text owns goes
+-- to the callee, beside the lifetime's token, which comes back. The slice that the callee hands back is the result as it is.
 -- Assumes nothing.
 use mathlib.Core.Path.{_≡_, refl}
 use Prim.Native.Nat.{ℕ, _<_, _^_}

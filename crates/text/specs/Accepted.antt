@@ -10,7 +10,7 @@ use lib.Dec.{T, leb, eqb, leb→le, eqb→eq}
 use lib.ListN.{length, getD, drop, length-map, drop-of-length-le}
 use lib.Seq.{drop-cons}
 use borrow.Author.Tests.{ne-eqb, eqb-true}
-use Rattle.sets.specs.Choice.{pick, T→true, true→T, and-left, and-right}
+use Rattle.sets.specs.Choice.{T→true, true→T, and-left, and-right}
 use Rattle.decimal.specs.Decimal.{tab, maxDigits, isDigit, areDigits, value, isNumber, decimal}
 use Rattle.decimal.specs.Reading.{number-good}
 use Rattle.decimal.specs.ReadBack.{decimal-digits, read-back, number-exactly}
@@ -19,9 +19,10 @@ use Rattle.taskset.specs.declared.Rule.{Rule}
 use Rattle.taskset.specs.declared.Call.the-variants.{AddTask, AddRule}
 use Rattle.taskset.specs.Calls.{taskIn, ruleIn}
 use Rattle.text.specs.declared.Line.{Line}
-use Rattle.text.specs.declared.Line.the-variants.{Asks, Unreadable}
+use Rattle.text.specs.declared.Line.the-variants.{Asks}
 use Rattle.text.specs.Parts.{parts}
 use Rattle.text.specs.PartsLaws.{join, join-parts, Clear, AllClear, parts-join}
+use Rattle.text.specs.LineLaws.{asks}
 use Rattle.text.specs.Text.{letterT, letterR, isLetter, areNumbers, hasForm, asked, lineIn}
 
 -- the fields of a task's line, and of a rule's
@@ -135,10 +136,6 @@ module _ (letter : ℕ) (ns : List ℕ) where
       )
 
 -- ---- both kinds of lines
-
--- what the two tests and the values ask
-abbrev asks : Bool → Bool → List ℕ → Line
-asks t r vs = pick t (Asks (AddTask (taskIn vs))) (pick r (Asks (AddRule (ruleIn vs))) Unreadable)
 
 -- a task's: read, written, and both ways
 task-read : (t : Task) (fs : List (List ℕ)) → asked fs ≡ Asks (AddTask t) → (fs ≡ taskFields t) × TaskShort t

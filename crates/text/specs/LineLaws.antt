@@ -62,7 +62,7 @@ line-untabbed (a ∷ b ∷ bs) h = go (eqb a tab) refl
 -- ---- a first byte and a tab
 
 -- what the two tests and the numbers ask
-abbrev asks : Bool → Bool → List ℕ → Line
+abbrev pub asks : Bool → Bool → List ℕ → Line
 asks t r vs = pick t (Asks (AddTask (taskIn vs))) (pick r (Asks (AddRule (ruleIn vs))) Unreadable)
 
 -- this letter and this many numbers

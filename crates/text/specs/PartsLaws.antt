@@ -51,8 +51,8 @@ module _ {m : ℕ} {bs : List ℕ} {at end : ℕ} (p : Passed m bs at end) where
       let k = end - at in
       let more : end + 1 - at ≡ suc k = omega arith in
       let back : at + k ≡ end = omega arith in
-      let within : k < length (drop at bs) = omega (arith, length-drop at bs) in
-      let last : take (suc k) (drop at bs) ≡ gone ++ b ∷ [] = rw (take-suc (drop at bs) k 0 within, getD-drop at bs k 0, back) in
+      let grown = take-suc (drop at bs) k 0 (omega (arith, length-drop at bs)) in
+      let last : take (suc k) (drop at bs) ≡ gone ++ b ∷ [] = rw (grown, getD-drop at bs k 0, back) in
       let next : upTo m (drop end bs) ≡ b ∷ upTo m (drop (suc end) bs) = rw (drop-cons bs end 0 l, ne-eqb b m n) in
       record {
         past = omega arith;

@@ -21,6 +21,9 @@ use verdict::Answer;
 use verdict::Solved;
 use verdict::solve;
 
+// The bytes that are always enough for a listing.
+pub const MAX_LISTING: usize = 1289;
+
 // A line of a listing: level, task, response; or rule, higher, lower.
 pub struct Row {
     pub first: u64,

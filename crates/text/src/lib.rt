@@ -20,7 +20,7 @@ use taskset::TaskSet;
 use taskset::rule_refusal;
 use taskset::task_refusal;
 
-const MAX_TEXT: usize = 16384;
+pub const MAX_TEXT: usize = 16384;
 
 // The refusal of a line that cannot be read.
 const UNREADABLE: u64 = 7;

@@ -12,6 +12,7 @@ pub struct Reader<'a> {
     pub at: usize,
 }
 
+// A reader over a text, at a position.
 pub fn stand<'a>(text: &'a [u8], at: usize) -> Reader<'a>
     ensures { λ r. ⌜ (r .text ≡ text .entry) × (r .at ≡ at) ⌝ }
 {

@@ -2,6 +2,7 @@
 
 ghost use Prim.Native.Nat.{_+_, _≤_, _<_};
 ghost use lib.ListN.{length};
+use listing::MAX_LISTING;
 
 const FORM_FEED: u8 = 12;
 
@@ -11,7 +12,7 @@ fn answer_at(texts: &[u8], at: usize) -> usize
     ensures { λ r. ⌜ (at < r) × (r ≤ length (now (texts .entry)) + 1) ⌝ }
 {
     let text = text::stretch(texts, at, FORM_FEED);
-    let mut out = [0u8; 1289];
+    let mut out = [0u8; MAX_LISTING];
     let count = answer::report(text, &mut out);
     io::write_all(1, &out[..count]);
     at + text.len() + 1

@@ -101,7 +101,7 @@ module _ (text : List ℕ) where
       go : (b : Bool) → eqb (reading text .refusal) 0 ≡ b
           → Kind (pick b (outcome (solving (reading text .set))) (refused (reading text .refusal)))
       go false e = refusal _ (pos-of-ne-zero (eqb-false (reading text .refusal) 0 e)) (reading-small text)
-      go true e = rw (reading-runs text (eqb-true (reading text .refusal) 0 e)) solved-kind
+      go true e = rw (reading-runs text (eqb-true (reading text .refusal) 0 e) .0) solved-kind
 
   -- so also in a buffer
   pub fitted-kind : (room : ℕ) → Kind (fitted room (answerTo text))

@@ -109,7 +109,8 @@ below v [] t = omega arith
 below v (b ∷ bs) t =
     let digit = digit-bounds b (and-left (isDigit b) (areDigits bs) t) in
     rw (pow-suc 10 (length bs))
-    (go (v * 10 + (b - 48)) (10 ^ length bs) (omega arith) (below (v * 10 + (b - 48)) bs (and-right (isDigit b) (areDigits bs) t)))
+    (go (v * 10 + (b - 48)) (10 ^ length bs) (omega arith)
+    (below (v * 10 + (b - 48)) bs (and-right (isDigit b) (areDigits bs) t)))
   where
     go : (w p : ℕ) {n : ℕ} → suc w ≤ suc v * 10 → n < suc w * p → n < suc v * (p * 10)
     go w p h k = omega (arith, mul-le-mul-right p h)
@@ -182,7 +183,8 @@ read-back n h = rw (T→true (isNumber (decimal n)) (decimal-number n h), decima
 pub number-exactly : (bs : List ℕ) (n : ℕ) → (numberIn bs ≡ Value n) ↔ ((bs ≡ decimal n) × (n < 10 ^ maxDigits))
 number-exactly bs n = (go (isNumber bs) refl, λ h. rw (h .0) (read-back n (h .1)))
   where
-    go : (c : Bool) → isNumber bs ≡ c → pick c (Value (value bs)) Malformed ≡ Value n → (bs ≡ decimal n) × (n < 10 ^ maxDigits)
+    go : (c : Bool) → isNumber bs ≡ c → pick c (Value (value bs)) Malformed ≡ Value n
+        → (bs ≡ decimal n) × (n < 10 ^ maxDigits)
     go true passed e =
         let t = true→T (isNumber bs) passed in
         let (width, digits, _) = number-parts bs t in

@@ -21,37 +21,36 @@ use Rattle.text.specs.Parts.{parts}
 use Rattle.text.specs.LineLaws.{line-short}
 use Rattle.text.specs.Text.{lineIn, maxText, refusedAt, byLine, readFrom, reading, asking, askedIn, callsAsked}
 
--- ---- what is read makes the set that the calls make
+-- ---- what is read makes the set that the calls make, and has no line of its own
 
-module _ (s : TaskSet) (line : ℕ) (rest : TaskSet → Reading) (calls : List Call)
-    (runs : (t : TaskSet) → rest t .refusal ≡ 0 → rest t .set ≡ run t calls) where
-  line-runs : (l : Line) → byLine s line l rest .refusal ≡ 0 → byLine s line l rest .set ≡ run s (asking l calls)
+abbrev pub Runs : Reading → TaskSet → List Call → Type 0
+Runs r s calls = r .refusal ≡ 0 → (r .set ≡ run s calls) × (r .line ≡ 0)
+
+module _ (s : TaskSet) (line : ℕ) (rest : TaskSet → Reading) (calls : List Call) (runs : (t : TaskSet) → Runs (rest t) t calls) where
+  line-runs : (l : Line) → Runs (byLine s line l rest) s (asking l calls)
   unfolding run
   line-runs Unreadable e = absurd (omega arith)
   line-runs (Asks c) e = go (eqb (add s c .refusal) 0) refl e
     where
       go : (b : Bool) → eqb (add s c .refusal) 0 ≡ b
-          → pick b (rest (after s c)) (refusedAt line (add s c .refusal)) .refusal ≡ 0
-          → pick b (rest (after s c)) (refusedAt line (add s c .refusal)) .set ≡ run (after s c) calls
+          → Runs (pick b (rest (after s c)) (refusedAt line (add s c .refusal))) (after s c) calls
       go true f g = runs (after s c) g
       go false f g = absurd (eqb-false (add s c .refusal) 0 f g)
 
-read-runs : (ps : List (List ℕ)) (s : TaskSet) (line : ℕ) → readFrom s line ps .refusal ≡ 0
-    → readFrom s line ps .set ≡ run s (askedIn ps)
+read-runs : (ps : List (List ℕ)) (s : TaskSet) (line : ℕ) → Runs (readFrom s line ps) s (askedIn ps)
 unfolding readFrom askedIn run
-read-runs [] s line e = refl
-read-runs ([] ∷ []) s line e = ap (λ (l : Line). run s (asking l [])) (line-short [] (omega arith))
+read-runs [] s line e = (refl, refl)
+read-runs ([] ∷ []) s line e = (ap (λ (l : Line). run s (asking l [])) (line-short [] (omega arith)), refl)
 read-runs ((b ∷ bs) ∷ []) s line e = absurd (omega arith)
 read-runs (bytes ∷ more ∷ rest) s line e =
     line-runs s line (λ t. readFrom t (suc line) (more ∷ rest)) (askedIn (more ∷ rest))
     (λ t. read-runs (more ∷ rest) t (suc line)) (lineIn bytes) e
 
-pub reading-runs : (text : List ℕ) → reading text .refusal ≡ 0 → reading text .set ≡ run freshSet (callsAsked text)
+pub reading-runs : (text : List ℕ) → Runs (reading text) freshSet (callsAsked text)
 unfolding reading
 reading-runs text e = go (ltb maxText (length text)) e
   where
-    go : (b : Bool) → pick b (refusedAt 0 8) (readFrom freshSet 1 (parts feed text)) .refusal ≡ 0
-        → pick b (refusedAt 0 8) (readFrom freshSet 1 (parts feed text)) .set ≡ run freshSet (callsAsked text)
+    go : (b : Bool) → Runs (pick b (refusedAt 0 8) (readFrom freshSet 1 (parts feed text))) freshSet (callsAsked text)
     go true f = absurd (omega arith)
     go false f = read-runs (parts feed text) freshSet 1 f
 

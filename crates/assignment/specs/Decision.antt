@@ -259,7 +259,7 @@ module _ (p : Problem) (inPlay : ℕ → Bool) where
   abbrev Ends : List ℕ → Type 0
   Ends low = Filled p inPlay low × ((length low ≡ p .tasks) ⊎ ((i : ℕ) → i < p .tasks → T (mayTake p inPlay (unassigned p low) i) → ⊥))
 
-  pub fill-ends : (free : ℕ) (low : List ℕ) → free + length low ≡ p .tasks → Filled p inPlay low
+  fill-ends : (free : ℕ) (low : List ℕ) → free + length low ≡ p .tasks → Filled p inPlay low
       → Ends (fill p inPlay free low)
   unfolding fill
   fill-ends zero low e f = (f, inl (omega arith))
@@ -276,33 +276,31 @@ module _ (p : Problem) (inPlay : ℕ → Bool) where
   abbrev pub SomeValid : Type 0
   SomeValid = (order : List ℕ) × Valid (p .tasks) (p .rules) (λ i above. T (p .passes i above)) inPlay order
 
-  -- from any levels that it may have filled, all levels get filled exactly when a valid order exists
-  pub fill-decides : Lawful p → (free : ℕ) (low : List ℕ) → free + length low ≡ p .tasks → Filled p inPlay low
-      → (length (fill p inPlay free low) ≡ p .tasks) ↔ SomeValid
-  fill-decides lawful free low e f =
-      let ends = fill-ends free low e f in
-      let order = fill p inPlay free low in
-      (λ long. (order, filled-valid lawful order (ends .0) long), λ s. ⊎-elim (λ long. long) (stuck order (ends .0) s) (ends .1))
+  -- then all are exactly when a valid order exists, whoever took the levels
+  pub ends-decide : Lawful p → (low : List ℕ) → Ends low → (length low ≡ p .tasks) ↔ SomeValid
+  ends-decide lawful low ends =
+      (λ long. (low, filled-valid lawful low (ends .0) long), λ s. ⊎-elim (λ long. long) (stuck s) (ends .1))
     where
       -- with a valid order about, no task may take the next level only where every task has one
-      stuck : (low : List ℕ) → Filled p inPlay low → SomeValid
-          → ((i : ℕ) → i < p .tasks → T (mayTake p inPlay (unassigned p low) i) → ⊥)
-          → length low ≡ p .tasks
-      stuck low f s out =
-          ⊎-elim (λ none-left. omega (arith, filled-count low f))
+      stuck : SomeValid → ((i : ℕ) → i < p .tasks → T (mayTake p inPlay (unassigned p low) i) → ⊥) → length low ≡ p .tasks
+      stuck s out =
+          ⊎-elim (λ none-left. omega (arith, filled-count low (ends .0)))
           (λ some-left.
           let i = count-some (p .tasks) (unassigned p low) some-left in
           let j = some-may lawful (s .0) (s .1) low (i .0) (i .2) in
           absurd (out (j .0) (j .1) (j .2)))
           (eq-zero-or-pos (count (p .tasks) (unassigned p low)))
 
+  assign-ends : Ends (assign p inPlay)
+  assign-ends = fill-ends (p .tasks) [] (omega arith) empty
+
   pub assign-filled : Filled p inPlay (assign p inPlay)
-  assign-filled = fill-ends (p .tasks) [] (omega arith) empty .0
+  assign-filled = assign-ends .0
 
   pub feasible-exactly : Lawful p → T (feasible p inPlay) ↔ SomeValid
   unfolding feasible
   feasible-exactly lawful =
-      let d = fill-decides lawful (p .tasks) [] (omega arith) empty in
+      let d = ends-decide lawful (assign p inPlay) assign-ends in
       let levels = length (assign p inPlay) in
       (λ t. d .0 (eqb→eq levels (p .tasks) t), λ s. true→T (eqb levels (p .tasks)) (eq-eqb levels (p .tasks) (d .1 s)))
 

@@ -6,9 +6,10 @@ use mathlib.Core.Logic.{_↔_}
 use mathlib.Core.Option.{Option, none, some}
 use Prim.Native.Nat.{ℕ, zero, suc, _+_, _-_, _≤_, _<_}
 use native.Mathlib.Omega.{arith}
-use lib.Dec.{T, ltb}
+use lib.Dec.{T, ltb, eqb, eqb→eq}
 use lib.ListN.{length, set, replicate, replicate-append-replicate, length-map}
-use Rattle.sets.specs.Choice.{pick, option, and-true}
+use borrow.Author.Tests.{eq-eqb}
+use Rattle.sets.specs.Choice.{pick, option, true→T, and-true}
 use Rattle.sets.specs.Bounded.{without, greatest, Greatest, found, nothing, greatest-is}
 use Rattle.sets.specs.Marks.{first, marked, marked-without}
 use Rattle.taskset.specs.declared.TaskIndex.{TaskIndex}
@@ -21,9 +22,9 @@ use Rattle.assignment.specs.Orders.{SomeOrder}
 use Rattle.assignment.specs.declared.Assignment.{Assignment}
 use Rattle.assignment.specs.declared.Choice.{Choice}
 use Rattle.assignment.specs.declared.Choice.the-variants.{Takes, Nobody}
-use Rattle.assignment.specs.Audsley.{ready, unassigned, mayTake, fill, assign}
-use Rattle.assignment.specs.Decision.{unassigned-cons, Filled, empty, filled-count, fill-ends, assign-filled}
-use Rattle.assignment.specs.Preemptive.{responseAt, isWithin, problem, fill-order}
+use Rattle.assignment.specs.Audsley.{ready, unassigned, mayTake, fill, assign, feasible}
+use Rattle.assignment.specs.Decision.{unassigned-cons, filled-count, assign-filled}
+use Rattle.assignment.specs.Preemptive.{responseAt, isWithin, problem, feasible-order}
 use Rattle.assignment.specs.Levels.{index, time, offer, chosen, responses, lowest, Stands, Resumes, Searched}
 
 -- ---- the arrays
@@ -106,22 +107,23 @@ taken a t r =
       left = set (a .left) (t .0) false;
     }
 
+-- the offers within the deadline are those of the tasks that may take the level
+pub offers-may : (l : Lists) (inPlay free : ℕ → Bool)
+    → (λ i. isWithin (offer (l .tasks) (ready (l .rules) inPlay free) free i)) ≡ mayTake (problem l) inPlay free
+unfolding mayTake
+offers-may l inPlay free = fun-ext (λ i. go i (ready (l .rules) inPlay free i))
+  where
+    go : (i : ℕ) (b : Bool)
+        → isWithin (pick b (responseAt (l .tasks) i (without free i)) Late) ≡ (b && isWithin (responseAt (l .tasks) i (without free i)))
+    go i true = refl
+    go i false = refl
+
 module _ (l : Lists) (inPlay : ℕ → Bool) (low : List ℕ) where
   abbrev n : ℕ
   n = length (l .tasks)
 
   abbrev free : ℕ → Bool
   free = unassigned (problem l) low
-
-  -- the offers within the deadline are those of the tasks that may take the level
-  offers-may : (λ i. isWithin (offer (l .tasks) (ready (l .rules) inPlay free) free i)) ≡ mayTake (problem l) inPlay free
-  unfolding mayTake
-  offers-may = fun-ext (λ i. go i (ready (l .rules) inPlay free i))
-    where
-      go : (i : ℕ) (b : Bool)
-          → isWithin (pick b (responseAt (l .tasks) i (without free i)) Late) ≡ (b && isWithin (responseAt (l .tasks) i (without free i)))
-      go i true = refl
-      go i false = refl
 
   fill-next : (k i : ℕ) → greatest n (mayTake (problem l) inPlay free) ≡ some i
       → fill (problem l) inPlay (suc k) low ≡ fill (problem l) inPlay k (i ∷ low)
@@ -134,7 +136,7 @@ module _ (l : Lists) (inPlay : ℕ → Bool) (low : List ℕ) where
   fill-stuck (suc k) e = ap (option low (λ j. fill (problem l) inPlay k (j ∷ low))) e
 
   module _ (a : Assignment) (stands : Stands l low a) (few : n ≤ maxTasks) (long : length (a .left) ≡ maxTasks) (more : 1 ≤ a .free)
-      (m : ℕ) (count : m ≡ n) (readies : ℕ → Bool) (is-ready : readies ≡ ready (l .rules) inPlay (marked (a .left))) where
+      (readies : ℕ → Bool) (is-ready : readies ≡ ready (l .rules) inPlay (marked (a .left))) where
     abbrev offers : ℕ → Response
     offers = offer (l .tasks) readies (marked (a .left))
 
@@ -143,11 +145,10 @@ module _ (l : Lists) (inPlay : ℕ → Bool) (low : List ℕ) where
         ap (λ (f : ℕ → Bool). offer (l .tasks) f (marked (a .left))) is-ready
         ∙ ap (λ (f : ℕ → Bool). offer (l .tasks) (ready (l .rules) inPlay f) f) (stands .left)
 
-    may : greatest m (λ i. isWithin (offers i)) ≡ greatest n (mayTake (problem l) inPlay free)
+    may : greatest n (λ i. isWithin (offers i)) ≡ greatest n (mayTake (problem l) inPlay free)
     may =
-        ap (λ (k : ℕ). greatest k (λ i. isWithin (offers i))) count
-        ∙ ap (λ (f : ℕ → Response). greatest n (λ i. isWithin (f i))) offers-are
-        ∙ ap (greatest n) offers-may
+        ap (λ (f : ℕ → Response). greatest n (λ i. isWithin (f i))) offers-are
+        ∙ ap (greatest n) (offers-may l inPlay free)
 
     -- the choice is made by the level's own offers, and there is room for it
     room : suc (a .free - 1) + length low ≡ n
@@ -167,9 +168,9 @@ module _ (l : Lists) (inPlay : ℕ → Bool) (low : List ℕ) where
         go true s e = e
         go false s e = absurd s
 
-    pub step-taken : (t : TaskIndex) (r : ℕ) → chosen m offers ≡ Takes t r → Stands l (t .0 ∷ low) (taken a t r)
+    pub step-taken : (t : TaskIndex) (r : ℕ) → chosen n offers ≡ Takes t r → Stands l (t .0 ∷ low) (taken a t r)
     step-taken t r e =
-        let c = chose m offers t r e in
+        let c = chose n offers t r e in
         record {
           order =
               ap (λ (xs : List TaskIndex). set xs (a .free - 1) t) (stands .order)
@@ -180,20 +181,20 @@ module _ (l : Lists) (inPlay : ℕ → Bool) (low : List ℕ) where
               ∙ ap (λ (q : ℕ). lowest n 0 (q ∷ responses l low)) (c .2 ∙ own t (c .3));
           free = omega (arith, stands .free);
           left =
-              marked-without (a .left) (t .0) (omega (arith, c .0, count, few, long))
+              marked-without (a .left) (t .0) (omega (arith, c .0, few, long))
               ∙ ap (λ (f : ℕ → Bool). without f (t .0)) (stands .left)
               ∙ sym (unassigned-cons (problem l) low (t .0));
         }
 
-    pub step-fill : (t : TaskIndex) (r : ℕ) → chosen m offers ≡ Takes t r
+    pub step-fill : (t : TaskIndex) (r : ℕ) → chosen n offers ≡ Takes t r
         → fill (problem l) inPlay (n - length low) low ≡ fill (problem l) inPlay (n - length (t .0 ∷ low)) (t .0 ∷ low)
     step-fill t r e =
-        let c = chose m offers t r e in
+        let c = chose n offers t r e in
         let now : n - length low ≡ suc (n - suc (length low)) = omega (arith, room) in
         ap (λ (k : ℕ). fill (problem l) inPlay k low) now ∙ fill-next (n - suc (length low)) (t .0) (sym may ∙ c .1)
 
-    pub step-stuck : chosen m offers ≡ Nobody → fill (problem l) inPlay (n - length low) low ≡ low
-    step-stuck e = fill-stuck (n - length low) (sym may ∙ chose-nobody m offers e)
+    pub step-stuck : chosen n offers ≡ Nobody → fill (problem l) inPlay (n - length low) low ≡ low
+    step-stuck e = fill-stuck (n - length low) (sym may ∙ chose-nobody n offers e)
 
 -- ---- a search that goes on
 
@@ -216,21 +217,21 @@ module _ (l : Lists) (inPlay : ℕ → Bool) (from : Assignment) where
       subst (λ (low : List ℕ). Stands l low a) (ap (λ (k : ℕ). fill (problem l) inPlay k (r .0)) (sym none-free) ∙ r .2) (r .1)
 
   module _ (a : Assignment) (reached : Reached l inPlay from a) (few : length (l .tasks) ≤ maxTasks) (long : length (a .left) ≡ maxTasks)
-      (m : ℕ) (count : m ≡ length (l .tasks)) (readies : ℕ → Bool) (is-ready : readies ≡ ready (l .rules) inPlay (marked (a .left))) where
-    pub reached-stuck : 1 ≤ a .free → chosen m (offer (l .tasks) readies (marked (a .left))) ≡ Nobody
+      (readies : ℕ → Bool) (is-ready : readies ≡ ready (l .rules) inPlay (marked (a .left))) where
+    pub reached-stuck : 1 ≤ a .free → chosen (length (l .tasks)) (offer (l .tasks) readies (marked (a .left))) ≡ Nobody
         → Resumes l inPlay from a
     reached-stuck more e start less s =
         let r = reached start less s in
-        subst (λ (low : List ℕ). Stands l low a) (sym (step-stuck l inPlay (r .0) a (r .1) few long more m count readies is-ready e) ∙ r .2) (r .1)
+        subst (λ (low : List ℕ). Stands l low a) (sym (step-stuck l inPlay (r .0) a (r .1) few long more readies is-ready e) ∙ r .2) (r .1)
 
     pub reached-next : 1 ≤ a .free → (t : TaskIndex) (q : ℕ)
-        → chosen m (offer (l .tasks) readies (marked (a .left))) ≡ Takes t q
+        → chosen (length (l .tasks)) (offer (l .tasks) readies (marked (a .left))) ≡ Takes t q
         → Reached l inPlay from (taken a t q)
     reached-next more t q e start less s =
         let r = reached start less s in (
           t .0 ∷ r .0,
-          step-taken l inPlay (r .0) a (r .1) few long more m count readies is-ready t q e,
-          sym (step-fill l inPlay (r .0) a (r .1) few long more m count readies is-ready t q e) ∙ r .2,
+          step-taken l inPlay (r .0) a (r .1) few long more readies is-ready t q e,
+          sym (step-fill l inPlay (r .0) a (r .1) few long more readies is-ready t q e) ∙ r .2,
         )
 
 -- a search with no level filled
@@ -256,23 +257,17 @@ resumes-assign l inPlay from a s resumes =
     subst (λ (k : ℕ). Stands l (fill (problem l) inPlay k []) a) all (resumes [] (omega arith) s)
 
 -- every level is filled exactly when a valid order exists
-pub search-decides : (l : Lists) → Sound l → (inPlay : ℕ → Bool) (low : List ℕ) → Filled (problem l) inPlay low
-    → (a : Assignment) → Stands l (fill (problem l) inPlay (length (l .tasks) - length low) low) a
-    → (a .free ≡ 0) ↔ SomeOrder l inPlay
-search-decides l sound inPlay low f a s =
-    let n = length (l .tasks) in
-    let end = fill (problem l) inPlay (n - length low) low in
-    let few = filled-count (problem l) inPlay low f in
-    let fits = filled-count (problem l) inPlay end (fill-ends (problem l) inPlay (n - length low) low (omega (arith, few)) f .0) in
-    let d = fill-order l sound inPlay low f (omega (arith, few)) in
-    (λ z. d .0 (omega (arith, z, fits, s .free)), λ o. omega (arith, d .1 o, s .free))
-
 pub assign-decides : (l : Lists) → Sound l → (inPlay : ℕ → Bool) (a : Assignment) → Stands l (assign (problem l) inPlay) a
     → (a .free ≡ 0) ↔ SomeOrder l inPlay
+unfolding feasible
 assign-decides l sound inPlay a s =
     let n = length (l .tasks) in
-    let all : n ≡ n - 0 = omega arith in
-    search-decides l sound inPlay [] empty a (subst (λ (k : ℕ). Stands l (fill (problem l) inPlay k []) a) all s)
+    let order = assign (problem l) inPlay in
+    let few = filled-count (problem l) inPlay order (assign-filled (problem l) inPlay) in
+    let d = feasible-order l sound inPlay in (
+      λ z. d .0 (true→T (eqb (length order) n) (eq-eqb (length order) n (omega (arith, z, few, s .free)))),
+      λ o. omega (arith, eqb→eq (length order) n (d .1 o), s .free),
+    )
 
 pub assign-searched : (l : Lists) (inPlay : ℕ → Bool) (a : Assignment) → Stands l (assign (problem l) inPlay) a
     → Searched l inPlay a

@@ -5,3 +5,4 @@ pub mod Preemptive
 pub mod Levels
 pub mod Steps
 pub mod Filling
+pub mod Settling

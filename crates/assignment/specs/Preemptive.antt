@@ -3,7 +3,7 @@ use mathlib.Core.Path.{_≡_, refl, sym, subst}
 use mathlib.Core.Bool.{Bool, true, false}
 use mathlib.Core.List.{List}
 use mathlib.Core.Logic.{_↔_}
-use Prim.Native.Nat.{ℕ, _-_, _≤_}
+use Prim.Native.Nat.{ℕ}
 use native.Mathlib.Omega.{arith}
 use lib.Dec.{T}
 use lib.ListN.{length}
@@ -18,8 +18,8 @@ use Rattle.response.specs.Equation.{taskAt, demand, SaysResponse, responseTime}
 use Rattle.response.specs.Agreement.{response-says}
 use Rattle.response.specs.Demand.{fewer-above}
 use Rattle.assignment.specs.Orders.{Valid, MeetsDeadline, ValidOrder, SomeOrder}
-use Rattle.assignment.specs.Audsley.{Problem, fill, feasible}
-use Rattle.assignment.specs.Decision.{Lawful, Filled, SomeValid, fill-decides, feasible-exactly, feasible-fewer}
+use Rattle.assignment.specs.Audsley.{Problem, feasible}
+use Rattle.assignment.specs.Decision.{Lawful, SomeValid, feasible-exactly, feasible-fewer}
 
 -- the response of task i, searched for up to its deadline
 abbrev pub responseAt : List Task → ℕ → (ℕ → Bool) → Response
@@ -81,13 +81,6 @@ module _ (l : Lists) (sound : Sound l) (inPlay : ℕ → Bool) where
   feasible-order =
       let d = feasible-exactly (problem l) inPlay (lawful l sound) in
       (λ t. some-valid .0 (d .0 t), λ s. d .1 (some-valid .1 s))
-
-  -- from any levels that it may have filled
-  pub fill-order : (low : List ℕ) → Filled (problem l) inPlay low → length low ≤ length (l .tasks)
-      → (length (fill (problem l) inPlay (length (l .tasks) - length low) low) ≡ length (l .tasks)) ↔ SomeOrder l inPlay
-  fill-order low f few =
-      let d = fill-decides (problem l) inPlay (lawful l sound) (length (l .tasks) - length low) low (omega arith) f in
-      (λ e. some-valid .0 (d .0 e), λ s. d .1 (some-valid .1 s))
 
 -- and fewer rules keep that there is one
 pub less-feasible : (l : Lists) → Sound l → (less more : ℕ → Bool) → Subset (length (l .rules)) less more

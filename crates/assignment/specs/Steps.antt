@@ -1,27 +1,27 @@
 -- What one turn of each loop does, and what a search's step hands back: laws for proofs to cite. Assumes nothing.
-use mathlib.Core.Path.{_≡_, refl, sym, ap, _∙_, fun-ext}
+use mathlib.Core.Path.{_≡_, refl, sym, ap, subst, _∙_, fun-ext}
 use mathlib.Core.Bool.{Bool, true, false, _&&_, not}
 use mathlib.Core.List.{List}
 use Prim.Native.Nat.{ℕ, suc, _+_, _-_, _≤_, _<_}
 use native.Mathlib.Omega.{arith}
 use lib.Dec.{eqb}
 use lib.ListN.{length, set}
-use lib.Seq.{getD-take}
 use borrow.Author.Tests.{eqb-true}
 use Rattle.sets.specs.Choice.{pick, option, and-true}
 use Rattle.sets.specs.Bounded.{without, all, all-next, greatest, greatest-at, greatest-under}
 use Rattle.sets.specs.Marks.{marked, marked-store, marked-without}
 use Rattle.taskset.specs.declared.Rule.{Rule}
-use Rattle.taskset.specs.declared.TaskSet.{TaskSet}
-use Rattle.taskset.specs.Adding.{blankTask, rows, rules}
+use Rattle.taskset.specs.declared.Task.{Task}
+use Rattle.taskset.specs.Adding.{blankTask}
 use Rattle.response.specs.declared.Response.{Response}
 use Rattle.response.specs.declared.Response.the-variants.{Within, Late}
 use Rattle.response.specs.Equation.{taskAt, responseTime}
+use Rattle.assignment.specs.declared.Choice.{Choice}
 use Rattle.assignment.specs.declared.Choice.the-variants.{Takes, Nobody}
 use Rattle.assignment.specs.Orders.{ruleAt}
 use Rattle.assignment.specs.Audsley.{blocks, ready}
 use Rattle.assignment.specs.Preemptive.{responseAt, isWithin}
-use Rattle.assignment.specs.Levels.{index, time, chosen}
+use Rattle.assignment.specs.Levels.{index, time, offer, chosen}
 
 -- ---- ready tasks, by rules
 
@@ -78,11 +78,10 @@ ready-end m rules inPlay free e = rw e
 
 -- ---- a task's response at the level
 
-pub bid-is : (s : TaskSet) (i : ℕ) → i < s .ntasks → (left : List Bool) → i < length left
-    → (ready : Bool) → ready ≡ true → (a : Response) → a ≡ responseTime (rows s) i (marked (set left i false)) (taskAt (s .tasks) i .deadline)
-    → a ≡ pick ready (responseAt (rows s) i (without (marked left) i)) Late
-bid-is s i h left l ready on a e =
-    e ∙ rw (getD-take (s .ntasks) (s .tasks) i blankTask h, marked-without left i l, on)
+pub bid-is : (tasks : List Task) (i : ℕ) (left : List Bool) → i < length left → (ready : Bool) → ready ≡ true
+    → (own : Task) → own ≡ taskAt tasks i → (a : Response) → a ≡ responseTime tasks i (marked (set left i false)) (own .deadline)
+    → a ≡ pick ready (responseAt tasks i (without (marked left) i)) Late
+bid-is tasks i left l ready on own at a e = e ∙ rw (at, marked-without left i l, on)
 
 -- ---- the greatest offer
 
@@ -108,3 +107,9 @@ module _ (n : ℕ) (offers : ℕ → Response) where
   pub chosen-none : (i : ℕ) → i ≡ 0 → greatest i within ≡ greatest n within → Nobody ≡ chosen n offers
   unfolding chosen greatest
   chosen-none i z e = ap (option Nobody (λ j. Takes (index j) (time (offers j)))) (ap (λ (m : ℕ). greatest m within) (sym z) ∙ e)
+
+-- the choice among the tasks of a list is that among the tasks of an equal one
+pub chosen-in : {tasks others : List Task} → tasks ≡ others → (ready left : ℕ → Bool) {r : Choice}
+    → r ≡ chosen (length tasks) (offer tasks ready left)
+    → r ≡ chosen (length others) (offer others ready left)
+chosen-in same ready left {r} = subst (λ (tasks : List Task). r ≡ chosen (length tasks) (offer tasks ready left)) same

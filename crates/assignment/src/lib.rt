@@ -5,7 +5,8 @@ ghost use mathlib.Core.Bool.{true};
 ghost use mathlib.Core.List.{[]};
 ghost use mathlib.Core.Logic.{_↔_};
 ghost use Prim.Native.Nat.{_≤_, _<_};
-ghost use lib.ListN.{set};
+ghost use lib.Dec.{T};
+ghost use lib.ListN.{set, length};
 ghost use Rattle.sets.specs.Choice.{pick};
 ghost use Rattle.sets.specs.Bounded.{without};
 ghost use Rattle.sets.specs.Marks.{first, marked};
@@ -13,12 +14,18 @@ ghost use Rattle.taskset.specs.Rows.{maxTasks};
 ghost use Rattle.taskset.specs.Adding.{rows, rules, isMade};
 ghost use Rattle.taskset.specs.Calls.{lists};
 ghost use Rattle.response.specs.declared.Response.the-variants.{Late};
+ghost use Rattle.response.specs.Words.{tasksIn, Rows};
 ghost use Rattle.assignment.specs.Orders.{SomeOrder};
-ghost use Rattle.assignment.specs.Audsley.{ready, assign};
+ghost use Rattle.assignment.specs.Audsley.{ready, assign, feasible};
 ghost use Rattle.assignment.specs.Preemptive.{responseAt, problem};
 ghost use Rattle.assignment.specs.Levels.{offer, chosen, Stands, Resumes};
+ghost use Rattle.assignment.specs.Settling.{AnyOf, passing, Known, Held};
+use response::MAX_WORDS;
+use response::ROW;
 use response::Response;
+use response::flatten;
 use response::response_time;
+use response::row;
 use taskset::MAX_RULES;
 use taskset::MAX_TASKS;
 use taskset::PriorityLevel;
@@ -44,6 +51,12 @@ pub struct Assignment {
     pub left: [bool; MAX_TASKS],
 }
 
+// Where a search stands that keeps no order: how many levels are free, and the tasks left without one.
+pub struct Standing {
+    pub free: usize,
+    pub left: [bool; MAX_TASKS],
+}
+
 // Marks for the first n tasks.
 fn first(n: usize) -> [bool; MAX_TASKS]
     requires { ⌜ n ≤ maxTasks ⌝ }
@@ -63,8 +76,11 @@ fn ready(set: TaskSet, marks: [bool; MAX_RULES], left: [bool; MAX_TASKS]) -> [bo
     requires { ⌜ isMade set ≡ true ⌝ }
     ensures { λ r. ⌜ marked r ≡ ready (rules set) (marked marks) (marked left) ⌝ }
 {
-    let rules = set.rules;
     let m = set.nrules;
+    if m == 0 {
+        return left;
+    }
+    let rules = set.rules;
     let mut ready = left;
     let mut k = 0;
     while k < m {
@@ -78,32 +94,31 @@ fn ready(set: TaskSet, marks: [bool; MAX_RULES], left: [bool; MAX_TASKS]) -> [bo
 }
 
 // The response of a task with the others that are left above it; late where it is not ready.
-fn bid(set: TaskSet, ready: bool, left: [bool; MAX_TASKS], task: TaskIndex) -> Response
-    requires { ⌜ isMade set ≡ true ⌝ }
-    requires { ⌜ task .0 < set .ntasks ⌝ }
-    ensures { λ r. ⌜ r ≡ pick ready (responseAt (rows set) (task .0) (without (marked left) (task .0))) Late ⌝ }
+fn bid(rows: &[u64], ready: bool, left: [bool; MAX_TASKS], task: TaskIndex) -> Response
+    requires { ⌜ Rows (tasksIn (now rows)) ⌝ }
+    requires { ⌜ task .0 < length (tasksIn (now rows)) ⌝ }
+    ensures { λ r. ⌜ r ≡ pick ready (responseAt (tasksIn (now (rows .entry))) (task .0) (without (marked left) (task .0))) Late ⌝ }
 {
     if ready {
-        let tasks = set.tasks;
         let i = task.0;
-        let own = tasks[i];
+        let own = row(rows, i);
         let mut above = left;
         above[i] = false;
-        return response_time(set, task, above, own.deadline);
+        return response_time(rows, task, above, own.deadline);
     }
     Response::Late
 }
 
 // Of the ready tasks that meet their deadline, the one with the greatest index takes the level.
-fn choose(set: TaskSet, ready: [bool; MAX_TASKS], left: [bool; MAX_TASKS]) -> Choice
-    requires { ⌜ isMade set ≡ true ⌝ }
-    ensures { λ r. ⌜ r ≡ chosen (set .ntasks) (offer (rows set) (marked ready) (marked left)) ⌝ }
+fn choose(rows: &[u64], ready: [bool; MAX_TASKS], left: [bool; MAX_TASKS]) -> Choice
+    requires { ⌜ Rows (tasksIn (now rows)) ⌝ }
+    ensures { λ r. ⌜ r ≡ chosen (length (tasksIn (now (rows .entry)))) (offer (tasksIn (now (rows .entry))) (marked ready) (marked left)) ⌝ }
 {
-    let mut i = set.ntasks;
+    let mut i = rows.len() / ROW;
     while 0 < i {
         i -= 1;
         let task = TaskIndex(i);
-        if let Response::Within(response) = bid(set, ready[i], left, task) {
+        if let Response::Within(response) = bid(rows, ready[i], left, task) {
             return Choice::Takes(task, response);
         }
     }
@@ -140,7 +155,7 @@ fn start(set: TaskSet) -> Assignment
 }
 
 // Goes on with a search until every level is filled or nobody may take the next.
-pub fn resume(set: TaskSet, marks: [bool; MAX_RULES], from: Assignment) -> Assignment
+fn resume(set: TaskSet, marks: [bool; MAX_RULES], from: Assignment) -> Assignment
     requires { ⌜ isMade set ≡ true ⌝ }
     requires { ⌜ from .free ≤ set .ntasks ⌝ }
     ensures { λ r. ⌜ Resumes (lists set) (marked marks) from r ⌝ }
@@ -148,9 +163,11 @@ pub fn resume(set: TaskSet, marks: [bool; MAX_RULES], from: Assignment) -> Assig
     let mut levels = from.levels;
     let mut free = from.free;
     let mut left = from.left;
+    let mut words = [0u64; MAX_WORDS];
+    let n = flatten(set, &mut words);
     while 0 < free {
         let ready = ready(set, marks, left);
-        let Choice::Takes(task, response) = choose(set, ready, left) else {
+        let Choice::Takes(task, response) = choose(&words[..n], ready, left) else {
             return Assignment { levels, free, left };
         };
         free -= 1;
@@ -169,4 +186,75 @@ pub fn trial(set: TaskSet, marks: [bool; MAX_RULES]) -> Assignment
     ensures decides { λ r. ⌜ (r .free ≡ 0) ↔ SomeOrder (lists set) (marked marks) ⌝ }
 {
     resume(set, marks, start(set))
+}
+
+// The tasks left that meet their deadline with all the others left above them.
+pub fn passing(set: TaskSet, left: [bool; MAX_TASKS]) -> [bool; MAX_TASKS]
+    requires { ⌜ isMade set ≡ true ⌝ }
+    ensures { λ r. ⌜ marked r ≡ passing (rows set) (marked left) ⌝ }
+{
+    let mut words = [0u64; MAX_WORDS];
+    let n = flatten(set, &mut words);
+    let count = set.ntasks;
+    let mut passing = [false; MAX_TASKS];
+    let mut i = 0;
+    while i < count {
+        if let Response::Within(_) = bid(&words[..n], left[i], left, TaskIndex(i)) {
+            passing[i] = true;
+        }
+        i += 1;
+    }
+    passing
+}
+
+// A ready task that meets its deadline at this level: one that is known to, else the one of `choose`.
+fn choose_any(
+    rows: &[u64],
+    ready: [bool; MAX_TASKS],
+    known: [bool; MAX_TASKS],
+    left: [bool; MAX_TASKS],
+) -> Choice
+    requires { ⌜ Rows (tasksIn (now rows)) ⌝ }
+    requires { ⌜ Known (tasksIn (now rows)) (marked left) (marked known) ⌝ }
+    ensures { λ r. ⌜ AnyOf (tasksIn (now (rows .entry))) (marked ready) (marked left) r ⌝ }
+{
+    let mut j = rows.len() / ROW;
+    while 0 < j {
+        j -= 1;
+        if ready[j] & known[j] {
+            return Choice::Takes(TaskIndex(j), 0);
+        }
+    }
+    choose(rows, ready, left)
+}
+
+// Goes on with a search, giving each level to any task that may take it: every level gets filled exactly when some order keeps
+// the rules in play and meets every deadline.
+pub fn settle(
+    set: TaskSet,
+    marks: [bool; MAX_RULES],
+    known: [bool; MAX_TASKS],
+    from: Standing,
+) -> Standing
+    requires { ⌜ isMade set ≡ true ⌝ }
+    requires { ⌜ Held (lists set) (marked marks) from ⌝ }
+    requires { ⌜ Known (rows set) (marked (from .left)) (marked known) ⌝ }
+    ensures { λ r. ⌜ Held (lists set) (marked marks) r ⌝ }
+    ensures decides { λ r. ⌜ (r .free ≡ 0) ↔ T (feasible (problem (lists set)) (marked marks)) ⌝ }
+    ensures known { λ r. ⌜ Known (rows set) (marked (r .left)) (marked known) ⌝ }
+{
+    let mut free = from.free;
+    let mut left = from.left;
+    let mut words = [0u64; MAX_WORDS];
+    let n = flatten(set, &mut words);
+    while 0 < free {
+        let ready = ready(set, marks, left);
+        let Choice::Takes(task, _) = choose_any(&words[..n], ready, known, left) else {
+            return Standing { free, left };
+        };
+        free -= 1;
+        let i = task.0;
+        left[i] = false;
+    }
+    Standing { free, left }
 }

@@ -1,21 +1,20 @@
 -- Rounding up, and what follows for demand: it grows with w and with the tasks above, and it is far from what a word
 -- holds. Assumes nothing.
-use mathlib.Core.Path.{_≡_, sym, ap, _∙_}
+use mathlib.Core.Path.{_≡_, sym, _∙_}
 use mathlib.Core.Bool.{Bool}
 use mathlib.Core.List.{List}
 use mathlib.Core.Logic.{⊎-elim}
-use Prim.Native.Nat.{ℕ, _+_, _-_, _*_, _/_, _≤_, _<_}
-use native.Mathlib.Nat.{le-refl, le-trans, lt-of-lt-of-le, add-le-add, eq-zero-or-pos, div-mul-le-self, le-div-iff-mul-le, lt-div-mul-add, div-lt-iff-lt-mul, mul-le-mul, mul-le-mul-left, mul-le-mul-right, suc-mul, div-zero, le-of-eq, le-of-suc-le-suc}
+use Prim.Native.Nat.{ℕ, _+_, _-_, _*_, _/_, _≤_}
+use native.Mathlib.Nat.{le-refl, le-trans, le-antisymm, lt-of-lt-of-le, add-le-add, eq-zero-or-pos, div-mul-le-self, le-div-iff-mul-le, lt-div-mul-add, div-lt-iff-lt-mul, mul-le-mul, mul-le-mul-left, mul-le-mul-right, suc-mul, one-mul, div-zero, le-of-eq, le-of-suc-le-suc}
 use native.Mathlib.Omega.{arith}
-use lib.ListN.{length, take}
-use lib.Seq.{length-take-le, getD-take}
+use lib.ListN.{length}
 use Rattle.sets.specs.Bounded.{Subset}
-use Rattle.sets.specs.Sum.{sum, sum-end, sum-mono, sum-cong, sum-le}
+use Rattle.sets.specs.Sum.{sum, sum-mono, sum-le}
 use Rattle.taskset.specs.declared.Task.{Task}
 use Rattle.taskset.specs.Rows.{maxTasks, maxPeriod, InRanges}
-use Rattle.taskset.specs.Adding.{blankTask}
 use Rattle.response.specs.declared.Response.the-variants.{Within}
 use Rattle.response.specs.Equation.{ceil, taskAt, interference, demand, responseTime}
+use Rattle.response.specs.Words.{Rows}
 use Rattle.response.specs.Agreement.{less-demand}
 
 -- ---- rounding up
@@ -35,6 +34,12 @@ ceil-above x t h = omega (arith, lt-div-mul-add {a = x + (t - 1)} h)
 
 pub ceil-least : (x t q : ℕ) → 1 ≤ t → x ≤ q * t → ceil x t ≤ q
 ceil-least x t q h l = le-of-suc-le-suc (div-lt-iff-lt-mul h .1 (omega (arith, suc-mul q t)))
+
+-- so it is 1 for x from 1 to t
+pub ceil-one : (x t : ℕ) → 1 ≤ x → x ≤ t → ceil x t ≡ 1
+ceil-one x t low high =
+    let pos : 1 ≤ t = le-trans low high in
+    le-antisymm (ceil-least x t 1 pos (omega arith)) (le-div-iff-mul-le pos .1 (omega arith))
 
 -- ---- demand
 
@@ -72,34 +77,20 @@ module _ (tasks : List Task) (i : ℕ) where
   fewer-above fewer above sub =
       less-demand (demand tasks i fewer) (demand tasks i above) (demand-fewer fewer above sub) (taskAt tasks i .jitter)
 
--- ---- the first n tasks of an array
+-- ---- of tasks that a set may have
 
--- a sum over them is a sum over the array's entries
-pub sum-first : (n : ℕ) (tasks : List Task) (above : ℕ → Bool) (f : Task → ℕ) → n ≤ length tasks
-    → sum n above (λ j. f (taskAt tasks j)) ≡ sum (length (take n tasks)) above (λ j. f (taskAt (take n tasks) j))
-sum-first n tasks above f h =
-    rw (length-take-le n tasks h)
-    (sum-cong n above (λ j. f (taskAt tasks j)) (λ j. f (taskAt (take n tasks) j)) (λ j l. ap f (sym (getD-take n tasks j blankTask l))))
-
--- the total of a loop over them
-pub sum-first-end : (total base j n : ℕ) (tasks : List Task) (above : ℕ → Bool) (f : Task → ℕ)
-    → total ≡ base + sum j above (λ k. f (taskAt tasks k))
-    → j ≤ n → n ≤ j → n ≤ length tasks → total ≡ base + sum (length (take n tasks)) above (λ k. f (taskAt (take n tasks) k))
-sum-first-end total base j n tasks above f e under over h =
-    sum-end total base j n above (λ k. f (taskAt tasks k)) e under over ∙ ap (λ (x : ℕ). base + x) (sum-first n tasks above f h)
-
-pub demand-first : (n : ℕ) (tasks : List Task) (i : ℕ) (above : ℕ → Bool) (w : ℕ) → n ≤ length tasks → i < n
-    → taskAt tasks i .blocking + taskAt tasks i .execution + sum n above (λ j. interference (taskAt tasks j) w) ≡ demand (take n tasks) i above w
-unfolding demand
-demand-first n tasks i above w h l =
-    rw (getD-take n tasks i blankTask l, sum-first n tasks above (λ t. interference t w) h)
+-- at w = 1 a task is released once
+pub interference-one : (t : Task) → InRanges t → t .execution ≡ interference t 1
+unfolding interference
+interference-one t r =
+    let once : ceil (1 + t .jitter) (t .period) ≡ 1 = ceil-one (1 + t .jitter) (t .period) (omega arith) (omega (arith, r .jitter)) in
+    rw once (sym (one-mul (t .execution)))
 
 -- the interference of 64 tasks is far from what a word holds
-pub interference-sum : (n j : ℕ) (tasks : List Task) (above : ℕ → Bool) (w : ℕ)
-    → ((k : ℕ) → k < n → InRanges (taskAt tasks k)) → n ≤ maxTasks → w ≤ maxPeriod → j ≤ n
+pub interference-sum : (tasks : List Task) → Rows tasks → (j : ℕ) (above : ℕ → Bool) (w : ℕ) → w ≤ maxPeriod → j ≤ length tasks
     → sum j above (λ k. interference (taskAt tasks k) w) ≤ maxTasks * (3 * maxPeriod)
-interference-sum n j tasks above w rows few short h =
+interference-sum tasks ok j above w short h =
     let each : w + 2 * maxPeriod ≤ 3 * maxPeriod = omega arith in
     le-trans
-    (sum-le j above (λ k. interference (taskAt tasks k) w) (w + 2 * maxPeriod) (λ k l t. interference-le (taskAt tasks k) w (rows k (lt-of-lt-of-le l h))))
-    (mul-le-mul (le-trans h few) each)
+    (sum-le j above (λ k. interference (taskAt tasks k) w) (w + 2 * maxPeriod) (λ k l t. interference-le (taskAt tasks k) w (ok .each k (lt-of-lt-of-le l h))))
+    (mul-le-mul (le-trans h (ok .few)) each)

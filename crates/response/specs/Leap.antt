@@ -1,4 +1,4 @@
--- Bounds below every window of a task, for the climb to start from and to leap to; and the answers of a search on a task set.
+-- Bounds below every window of a task, for the climb to start from and to leap to; and the answers of the search.
 -- With v at least w, a task above brings at least what it brings at w, and at least (v + J) × C / T. Whichever of the two is taken
 -- for each task, a window v has fixed + v × rate ≤ v × scale, and so lies at or above fixed / (scale − rate). Assumes nothing.
 use mathlib.Core.Path.{_≡_, refl, sym, ap, _∙_, subst}
@@ -9,21 +9,18 @@ use native.Mathlib.Nat.{le-trans, lt-of-lt-of-le, div-mul-le-self, mul-le-mul, m
 use native.Mathlib.Omega.{arith}
 use lib.Dec.{leb, ltb}
 use lib.ListN.{length}
-use lib.Seq.{getD-take}
 use borrow.Author.Tests.{leb-true, leb-false, lt-ltb, le-ltb, le-leb, lt-leb}
 use Rattle.sets.specs.Choice.{pick}
-use Rattle.sets.specs.Sum.{sum, sum-le, sum-scaled}
+use Rattle.sets.specs.Sum.{sum, sum-turn, sum-le, sum-scaled}
 use Rattle.taskset.specs.declared.Task.{Task}
-use Rattle.taskset.specs.declared.TaskSet.{TaskSet}
 use Rattle.taskset.specs.Rows.{maxTasks, maxPeriod, InRanges}
-use Rattle.taskset.specs.Adding.{blankTask, rows, isMade}
-use Rattle.taskset.specs.Exact.{rows-row, passes-row}
 use Rattle.response.specs.declared.Part.{Part}
 use Rattle.response.specs.declared.Window.{Window}
 use Rattle.response.specs.declared.Response.the-variants.{Late}
-use Rattle.response.specs.Equation.{ceil, taskAt, interference, demand, windowOf, respond, responseOf, responseTime}
-use Rattle.response.specs.Agreement.{Bounds, response-is}
-use Rattle.response.specs.Demand.{ceil-above, ceil-least, interference-mono, interference-le}
+use Rattle.response.specs.Equation.{ceil, taskAt, interference, demand, windowOf, Says, respond, responseOf}
+use Rattle.response.specs.Words.{Rows}
+use Rattle.response.specs.Agreement.{Bounds, response-is, response-both, climb}
+use Rattle.response.specs.Demand.{ceil-above, ceil-least, interference-mono, interference-le, demand-mono}
 
 -- ---- what a task adds to a bound
 
@@ -139,93 +136,86 @@ pub bound-least : (fixed rate : ℕ) → rate < scale → ceil fixed (scale - ra
 unfolding boundOf
 bound-least fixed rate h = rw (lt-leb scale rate h)
 
--- of the first j of at most 64 tasks
-module _ (n j : ℕ) (tasks : List Task) (above : ℕ → Bool) (w reach : ℕ) (rows : (k : ℕ) → k < n → InRanges (taskAt tasks k))
-    (few : n ≤ maxTasks) (short : w ≤ maxPeriod) (h : j ≤ n) where
-  pub fixed-sum : sum j above (λ k. fixedPart w reach (taskAt tasks k)) ≤ maxTasks * (3 * maxPeriod * scale)
-  fixed-sum =
-      le-trans
-      (sum-le j above (λ k. fixedPart w reach (taskAt tasks k)) (3 * maxPeriod * scale)
-      (λ k l t. fixed-le (taskAt tasks k) w reach (rows k (lt-of-lt-of-le l h)) short))
-      (mul-le-mul-right (3 * maxPeriod * scale) (le-trans h few))
+-- ---- of tasks that a set may have
 
-  pub rate-sum : sum j above (λ k. ratePart w reach (taskAt tasks k)) ≤ maxTasks * scale
-  rate-sum =
-      le-trans (sum-le j above (λ k. ratePart w reach (taskAt tasks k)) scale (λ k l t. rate-part-le (taskAt tasks k) w reach (rows k (lt-of-lt-of-le l h))))
-      (mul-le-mul-right scale (le-trans h few))
+module _ (tasks : List Task) (ok : Rows tasks) (above : ℕ → Bool) (w reach : ℕ) where
+  abbrev fixed-at : ℕ → ℕ
+  fixed-at k = fixedPart w reach (taskAt tasks k)
 
--- ---- the bound
+  abbrev rate-at : ℕ → ℕ
+  rate-at k = ratePart w reach (taskAt tasks k)
 
-module _ (tasks : List Task) (i : ℕ) (above : ℕ → Bool) (rows : (j : ℕ) → j < length tasks → 1 ≤ taskAt tasks j .period) where
-  abbrev base : ℕ
-  base = taskAt tasks i .blocking + taskAt tasks i .execution
+  pub fixed-sum : (j : ℕ) → w ≤ maxPeriod → j ≤ length tasks → sum j above fixed-at ≤ maxTasks * (3 * maxPeriod * scale)
+  fixed-sum j short h =
+      le-trans (sum-le j above fixed-at (3 * maxPeriod * scale) (λ k l t. fixed-le (taskAt tasks k) w reach (ok .each k (lt-of-lt-of-le l h)) short))
+      (mul-le-mul-right (3 * maxPeriod * scale) (le-trans h (ok .few)))
 
-  base-bounds : Bounds (demand tasks i above) base
-  unfolding demand
-  base-bounds v low met = omega arith
+  pub rate-sum : (j : ℕ) → j ≤ length tasks → sum j above rate-at ≤ maxTasks * scale
+  rate-sum j h =
+      le-trans (sum-le j above rate-at scale (λ k l t. rate-part-le (taskAt tasks k) w reach (ok .each k (lt-of-lt-of-le l h))))
+      (mul-le-mul-right scale (le-trans h (ok .few)))
 
-  leap-bounds : (w reach fixed rate : ℕ) → 1 ≤ base → Bounds (demand tasks i above) w
-      → fixed ≡ base * scale + sum (length tasks) above (λ j. fixedPart w reach (taskAt tasks j))
-      → rate ≡ sum (length tasks) above (λ j. ratePart w reach (taskAt tasks j))
+  -- the sums of a loop over them, one task more
+  pub parts-turn : (base fixed rate j : ℕ) (t : Task) (p : Part) → fixed ≡ base + sum j above fixed-at → rate ≡ 0 + sum j above rate-at
+      → t ≡ taskAt tasks j → p ≡ partOf (above j) t w reach
+      → (fixed + p .fixed ≡ base + sum (j + 1) above fixed-at) × (rate + p .rate ≡ 0 + sum (j + 1) above rate-at)
+  parts-turn base fixed rate j t p e f read q =
+      let part = rw read at q in (
+        sum-turn fixed base j above fixed-at (p .fixed) e (ap (λ (x : Part). x .fixed) part),
+        sum-turn rate 0 j above rate-at (p .rate) f (ap (λ (x : Part). x .rate) part),
+      )
+
+  -- the bound
+  pub leap-bounds : (i base fixed rate : ℕ) → i < length tasks → base ≡ taskAt tasks i .blocking + taskAt tasks i .execution
+      → Bounds (demand tasks i above) w
+      → fixed ≡ base * scale + sum (length tasks) above fixed-at
+      → rate ≡ sum (length tasks) above rate-at
       → Bounds (demand tasks i above) (boundOf fixed rate)
   unfolding demand boundOf
-  leap-bounds w reach fixed rate positive b e f v low met = go (leb scale rate) refl
+  leap-bounds i base fixed rate here own b e f v low met = go (leb scale rate) refl
     where
       -- a window has fixed + v × rate ≤ v × scale
       spread : fixed + v * rate ≤ scale * v
       spread =
           let s =
-          sum-scaled (length tasks) above (λ j. fixedPart w reach (taskAt tasks j)) (λ j. ratePart w reach (taskAt tasks j)) (λ j. interference (taskAt tasks j) v) v scale
-          (λ j l t. part-le (taskAt tasks j) w reach v (rows j l) (b v low met))
+          sum-scaled (length tasks) above fixed-at rate-at (λ j. interference (taskAt tasks j) v) v scale
+          (λ j l t. part-le (taskAt tasks j) w reach v (ok .each j l .period .0) (b v low met))
           in
           omega (arith, s, e, ap (λ (r : ℕ). v * r) f)
 
       go : (c : Bool) → leb scale rate ≡ c → pick c (maxPeriod + 1) (ceil fixed (scale - rate)) ≤ v
-      go true g = absurd (omega (arith, spread, mul-le-mul-left v (leb-true scale rate g), e, positive, mul-comm v scale))
+      go true g = absurd (omega (arith, spread, mul-le-mul-left v (leb-true scale rate g), e, own, ok .each i here .execution, mul-comm v scale))
       go false g =
           let under = leb-false scale rate g in
           ceil-least fixed (scale - rate) v (omega (arith, under)) (omega (arith, spread, mul-sub v scale rate, mul-comm v scale))
 
--- ---- a task of a task set that calls made: the search's answers
+-- ---- the search
 
-module _ (set : TaskSet) (made : isMade set ≡ true) (i : ℕ) (here : i < set .ntasks) where
-  abbrev own : Task
-  own = taskAt (set .tasks) i
+-- it starts at demand(1)
+pub start-bounds : (tasks : List Task) → Rows tasks → (i : ℕ) → i < length tasks → (above : ℕ → Bool) (start : ℕ)
+    → start ≡ demand tasks i above 1 → (1 ≤ start) × Bounds (demand tasks i above) start
+unfolding demand
+start-bounds tasks ok i here above start e = (
+  omega (arith, ok .each i here .execution),
+  subst (Bounds (demand tasks i above)) (sym e) (climb (demand tasks i above) (demand-mono tasks i above) 1 (λ v low met. low)),
+)
 
-  at-row : taskAt (rows set) i ≡ own
-  at-row = getD-take (set .ntasks) (set .tasks) i blankTask here
+-- its answers for a task that was read
+module _ (tasks : List Task) (i : ℕ) (above : ℕ → Bool) (limit : ℕ) (own : Task) (read : own ≡ taskAt tasks i) where
+  abbrev d : ℕ → ℕ
+  d = demand tasks i above
 
-  periods : (j : ℕ) → j < length (rows set) → 1 ≤ taskAt (rows set) j .period
-  periods j h = rows-row set made j h .period .0
+  abbrev jitter : ℕ
+  jitter = taskAt tasks i .jitter
 
-  pub start-positive : 1 ≤ own .blocking + own .execution
-  start-positive = let r = passes-row set made i here in omega (arith, r .execution)
+  -- a jitter beyond the limit
+  pub late-by-jitter : limit < own .jitter → (Late ≡ responseOf d jitter limit) × Says d jitter limit Late
+  late-by-jitter h =
+      response-both d jitter limit Late
+      (response-is d jitter limit Late (λ w low met. omega (arith, ap (λ (t : Task). t .jitter) read)))
 
-  module _ (above : ℕ → Bool) where
-    abbrev d : ℕ → ℕ
-    d = demand (rows set) i above
-
-    -- B + C bounds every window
-    pub start-below : Bounds d (own .blocking + own .execution)
-    start-below =
-        subst (λ (t : Task). Bounds d (t .blocking + t .execution)) at-row (base-bounds (rows set) i above periods)
-
-    -- so does a leap
-    pub leap-below : (w reach fixed rate : ℕ) → Bounds d w
-        → fixed ≡ (own .blocking + own .execution) * scale + sum (length (rows set)) above (λ j. fixedPart w reach (taskAt (rows set) j))
-        → rate ≡ sum (length (rows set)) above (λ j. ratePart w reach (taskAt (rows set) j))
-        → Bounds d (boundOf fixed rate)
-    leap-below w reach fixed rate b e =
-        leap-bounds (rows set) i above periods w reach fixed rate (subst (λ (t : Task). 1 ≤ t .blocking + t .execution) (sym at-row) start-positive) b
-        (e ∙ ap (λ (t : Task). (t .blocking + t .execution) * scale + sum (length (rows set)) above (λ j. fixedPart w reach (taskAt (rows set) j))) (sym at-row))
-
-    -- a jitter beyond the limit
-    pub late-by-jitter : (limit : ℕ) → limit < own .jitter → Late ≡ responseTime (rows set) i above limit
-    late-by-jitter limit h =
-        response-is d (taskAt (rows set) i .jitter) limit Late (λ w low met. omega (arith, ap (λ (t : Task). t .jitter) at-row))
-
-    -- the response of the window that was found
-    pub found-response : (limit : ℕ) (a : Window) → a ≡ windowOf d (limit - own .jitter)
-        → respond (own .jitter) a ≡ responseTime (rows set) i above limit
-    unfolding responseOf
-    found-response limit a e = rw (at-row, e)
+  -- the response of the window that was found
+  pub found-response : (a : Window) → a ≡ windowOf d (limit - own .jitter)
+      → let r = respond (own .jitter) a in (r ≡ responseOf d jitter limit) × Says d jitter limit r
+  unfolding responseOf
+  found-response a e = response-both d jitter limit (respond (own .jitter) a) (rw (e, read))

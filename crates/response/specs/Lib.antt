@@ -1,4 +1,5 @@
 pub mod Equation
+pub mod Words
 pub mod Agreement
 pub mod Demand
 pub mod Leap

@@ -1,6 +1,6 @@
 -- An array of marks as a set of indices. Assumes nothing.
 use mathlib.Core.Path.{_≡_, refl, sym, ap, _∙_, fun-ext}
-use mathlib.Core.Bool.{Bool, true, false}
+use mathlib.Core.Bool.{Bool, true, false, _&&_}
 use mathlib.Core.List.{List, [], _∷_}
 use mathlib.Core.Logic.{⊎-elim}
 use Prim.Native.Nat.{ℕ, zero, suc, _+_, _≤_, _<_}
@@ -10,7 +10,7 @@ use lib.Dec.{eqb, ltb, ltb→lt, lt→ltb}
 use lib.ListN.{length, getD, set, replicate, length-replicate, getD-replicate, List·getD-eq-default}
 use lib.Seq.{getD-set-same, getD-set-other, ext-getD}
 use borrow.Author.Tests.{eqb-true, eqb-false, lt-ltb, le-ltb}
-use Rattle.sets.specs.Choice.{pick, lt-or-le, same-test}
+use Rattle.sets.specs.Choice.{pick, lt-or-le, same-test, and-false}
 use Rattle.sets.specs.Bounded.{without}
 use Rattle.sets.specs.Pad.{pad, pad-length, pad-used, pad-unused, pad-rest}
 
@@ -45,16 +45,44 @@ marked-none n =
 pub marked-first-none : (n : ℕ) → marked (replicate n false) ≡ first 0
 marked-first-none n = marked-none n ∙ fun-ext (λ i. sym (le-ltb i 0 (omega arith)))
 
-pub marked-first : (marks : List Bool) (j : ℕ) → j < length marks → marked marks ≡ first j
-    → marked (set marks j true) ≡ first (j + 1)
-marked-first marks j h e = fun-ext (λ i. marked-store marks j true h i ∙ go i (eqb j i) refl (ap (λ (f : ℕ → Bool). f i) e))
+first-next : (k j : ℕ) → pick (eqb k j) true (first k j) ≡ first (k + 1) j
+first-next k j = go (eqb k j) refl
   where
-    go : (i : ℕ) (b : Bool) → eqb j i ≡ b → marked marks i ≡ ltb i j → pick b true (marked marks i) ≡ ltb i (j + 1)
-    go i true f g = sym (lt-ltb i (j + 1) (omega (arith, eqb-true j i f)))
-    go i false f g =
-        let apart = eqb-false j i f in
-        g ∙ same-test (ltb i j) (ltb i (j + 1)) (λ t. lt→ltb i (j + 1) (omega (arith, ltb→lt i j t)))
-        (λ t. lt→ltb i j (⊎-elim (λ l. l) (λ l. absurd (apart (omega (arith, l, ltb→lt i (j + 1) t)))) (lt-or-le i j)))
+    go : (b : Bool) → eqb k j ≡ b → pick b true (ltb j k) ≡ ltb j (k + 1)
+    go true f = sym (lt-ltb j (k + 1) (omega (arith, eqb-true k j f)))
+    go false f =
+        let apart = eqb-false k j f in
+        same-test (ltb j k) (ltb j (k + 1)) (λ t. lt→ltb j (k + 1) (omega (arith, ltb→lt j k t)))
+        (λ t. lt→ltb j k (⊎-elim (λ l. l) (λ l. absurd (apart (omega (arith, l, ltb→lt j (k + 1) t)))) (lt-or-le j k)))
+
+pub marked-first : (marks : List Bool) (k : ℕ) → k < length marks → marked marks ≡ first k
+    → marked (set marks k true) ≡ first (k + 1)
+marked-first marks k h e =
+    fun-ext (λ j. marked-store marks k true h j ∙ ap (λ (f : ℕ → Bool). pick (eqb k j) true (f j)) e ∙ first-next k j)
+
+-- ---- the first n that pass a test, marked one by one
+
+abbrev pub firstOf : ℕ → (ℕ → Bool) → ℕ → Bool
+firstOf n p j = first n j && p j
+
+module _ (p : ℕ → Bool) where
+  pub marked-none-of : (n : ℕ) → marked (replicate n false) ≡ firstOf 0 p
+  marked-none-of n = marked-first-none n ∙ fun-ext (λ j. rw (le-ltb j 0 (omega arith)))
+
+  module _ (marks : List Bool) (k : ℕ) (e : marked marks ≡ firstOf k p) where
+    pub marked-passes : k < length marks → p k ≡ true → marked (set marks k true) ≡ firstOf (k + 1) p
+    marked-passes h t = fun-ext (λ j. marked-store marks k true h j ∙ go j (eqb k j) refl ∙ ap (λ (b : Bool). b && p j) (first-next k j))
+      where
+        go : (j : ℕ) (b : Bool) → eqb k j ≡ b → pick b true (marked marks j) ≡ (pick b true (first k j) && p j)
+        go j true f = sym t ∙ ap p (eqb-true k j f)
+        go j false f = ap (λ (a : ℕ → Bool). a j) e
+
+    pub marked-fails : p k ≡ false → marked marks ≡ firstOf (k + 1) p
+    marked-fails t = fun-ext (λ j. ap (λ (a : ℕ → Bool). a j) e ∙ go j (eqb k j) refl ∙ ap (λ (b : Bool). b && p j) (first-next k j))
+      where
+        go : (j : ℕ) (b : Bool) → eqb k j ≡ b → (first k j && p j) ≡ (pick b true (first k j) && p j)
+        go j true f = rw (sym (ap p (eqb-true k j f)), t) (and-false (first k j))
+        go j false f = refl
 
 -- ---- the first n marks of a set, as a list
 

@@ -6,17 +6,20 @@ ghost use Prim.Native.Nat.{_≤_, _<_};
 ghost use lib.ListN.{length};
 ghost use Rattle.sets.specs.Marks.{first, marked};
 ghost use Rattle.taskset.specs.Rows.{maxRules};
-ghost use Rattle.taskset.specs.Adding.{freshSet, isMade};
+ghost use Rattle.taskset.specs.Adding.{freshSet, rows, isMade};
 ghost use Rattle.taskset.specs.Calls.{after, run, noLists, lists, heard};
 ghost use Rattle.assignment.specs.Audsley.{feasible};
 ghost use Rattle.assignment.specs.Preemptive.{problem};
 ghost use Rattle.assignment.specs.Levels.{Searched};
+ghost use Rattle.assignment.specs.Settling.{Known, Held};
 ghost use Rattle.verdict.specs.Core.{tried, coreOf};
 ghost use Rattle.verdict.specs.Verdict.{solving};
 ghost use Rattle.verdict.specs.Demand3.{Demand3, Explains};
 ghost use Rattle.verdict.specs.Replay.{callIn, callsIn};
 use assignment::Assignment;
-use assignment::resume;
+use assignment::Standing;
+use assignment::passing;
+use assignment::settle;
 use assignment::trial;
 use taskset::MAX_RULES;
 use taskset::MAX_TASKS;
@@ -45,7 +48,7 @@ pub struct Solved {
 // A core being cut down: the rules still in it, and where the search with them in play got stuck.
 pub struct Cut {
     pub marks: [bool; MAX_RULES],
-    pub stuck: Assignment,
+    pub stuck: Standing,
 }
 
 // Marks for the first m rules.
@@ -63,17 +66,19 @@ fn first(m: usize) -> [bool; MAX_RULES]
 }
 
 // Rule k tried: out for good where the others still have no valid order.
-fn try_rule(set: TaskSet, cut: Cut, k: usize) -> Cut
+fn try_rule(set: TaskSet, known: [bool; MAX_TASKS], cut: Cut, k: usize) -> Cut
     requires { ⌜ isMade set ≡ true ⌝ }
     requires { ⌜ k < maxRules ⌝ }
-    requires { ⌜ Searched (lists set) (marked (cut .marks)) (cut .stuck) ⌝ }
+    requires { ⌜ Held (lists set) (marked (cut .marks)) (cut .stuck) ⌝ }
+    requires { ⌜ Known (rows set) (marked (cut .stuck .left)) (marked known) ⌝ }
     ensures { λ r. ⌜ marked (r .marks) ≡ tried (feasible (problem (lists set))) (marked (cut .marks)) k ⌝ }
-    ensures searched { λ r. ⌜ Searched (lists set) (marked (r .marks)) (r .stuck) ⌝ }
+    ensures held { λ r. ⌜ Held (lists set) (marked (r .marks)) (r .stuck) ⌝ }
+    ensures known { λ r. ⌜ Known (rows set) (marked (r .stuck .left)) (marked known) ⌝ }
 {
     let marks = cut.marks;
     let mut less = marks;
     less[k] = false;
-    let stuck = resume(set, less, cut.stuck);
+    let stuck = settle(set, less, known, cut.stuck);
     if stuck.free == 0 {
         return cut;
     }
@@ -81,9 +86,10 @@ fn try_rule(set: TaskSet, cut: Cut, k: usize) -> Cut
 }
 
 // The rules that stay when each is tried, from where the search with every rule in play got stuck.
-fn cut_down(set: TaskSet, stuck: Assignment) -> [bool; MAX_RULES]
+fn cut_down(set: TaskSet, known: [bool; MAX_TASKS], stuck: Standing) -> [bool; MAX_RULES]
     requires { ⌜ isMade set ≡ true ⌝ }
-    requires { ⌜ Searched (lists set) (first (set .nrules)) stuck ⌝ }
+    requires { ⌜ Held (lists set) (first (set .nrules)) stuck ⌝ }
+    requires { ⌜ Known (rows set) (marked (stuck .left)) (marked known) ⌝ }
     ensures { λ r. ⌜ marked r ≡ coreOf (feasible (problem (lists set))) (set .nrules) ⌝ }
 {
     let m = set.nrules;
@@ -91,22 +97,31 @@ fn cut_down(set: TaskSet, stuck: Assignment) -> [bool; MAX_RULES]
     let mut cut = Cut { marks, stuck };
     let mut k = 0;
     while k < m {
-        cut = try_rule(set, cut, k);
+        cut = try_rule(set, known, cut, k);
         k += 1;
     }
     cut.marks
 }
 
 // The core of a set, from where the search with every rule in play got stuck: empty where it gets stuck without rules too.
-fn core(set: TaskSet, stuck: Assignment) -> [bool; MAX_RULES]
+fn core(set: TaskSet, found: Assignment) -> [bool; MAX_RULES]
     requires { ⌜ isMade set ≡ true ⌝ }
-    requires { ⌜ Searched (lists set) (first (set .nrules)) stuck ⌝ }
+    requires { ⌜ Searched (lists set) (first (set .nrules)) found ⌝ }
     ensures { λ r. ⌜ marked r ≡ coreOf (feasible (problem (lists set))) (set .nrules) ⌝ }
 {
     let no_rules = [false; MAX_RULES];
-    let bare = resume(set, no_rules, stuck);
+    if set.nrules == 0 {
+        return no_rules;
+    }
+    let left = found.left;
+    let stuck = Standing {
+        free: found.free,
+        left,
+    };
+    let known = passing(set, left);
+    let bare = settle(set, no_rules, known, stuck);
     if bare.free == 0 {
-        return cut_down(set, stuck);
+        return cut_down(set, known, stuck);
     }
     no_rules
 }

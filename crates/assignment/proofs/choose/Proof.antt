@@ -1,40 +1,37 @@
 -- `assignment::choose` meets its contract: no task from i on may take the level. Assumes nothing.
-use mathlib.Core.Path.{_≡_, refl, sym, _∙_}
-use Prim.Native.Nat.{_≤_}
+use mathlib.Core.Path.{_≡_, refl, sym, ap, _∙_}
+use Prim.Native.Nat.{_/_, _≤_}
 use native.Mathlib.Omega.{arith}
 use borrow.Author.Needs.{needs}
+use lib.ListN.{length}
 use Rattle.sets.specs.Bounded.{greatest}
 use Rattle.sets.specs.Marks.{marked}
-use Rattle.taskset.specs.Rows.{maxTasks}
-use Rattle.taskset.specs.Adding.{rows}
-use Rattle.taskset.specs.Exact.{passes-few}
+use Rattle.response.specs.Words.{tasksIn, tasks-count, tasks-length}
 use Rattle.assignment.specs.Levels.{offer}
 use Rattle.assignment.specs.Steps.{within, chosen-takes, chosen-next, chosen-none}
 use Rattle.assignment.proofs.choose.Statement.{statement}
 use Rattle.assignment.proofs.choose.Tie as tie
 
 abbrev Inv-loop : tie.InvT-loop
-Inv-loop set left ready i₀ i =
-    let w = within (set .ntasks) (offer (rows set) (marked ready) (marked left)) in
-    (i ≤ set .ntasks) × (greatest i w ≡ greatest (set .ntasks) w)
+Inv-loop rows left ready i₀ i =
+    let n = length (tasksIn rows) in
+    let w = within n (offer (tasksIn rows) (marked ready) (marked left)) in
+    (i ≤ n) × (greatest i w ≡ greatest n w)
 
 abbrev μ-loop : tie.MeasureT-loop
-μ-loop set left ready i₀ i = i
-
-few : (c : tie.Start Inv-loop μ-loop) → c .args .set .ntasks ≤ maxTasks
-few c = passes-few (c .args .set) (c .pre)
+μ-loop rows left ready i₀ i = i
 
 loop-holds : tie.Need-loop-holds Inv-loop μ-loop
-loop-holds c = (omega arith, refl)
+loop-holds c = rw (sym (tasks-length (c .before .args .rows .now))) (omega arith, refl)
 
 sub-i : tie.Need-sub-i Inv-loop μ-loop
 sub-i c = search needs
 
 array-read-bid : tie.Need-array-read-bid Inv-loop μ-loop
-array-read-bid c = let h = few (c .before .before) in omega (arith, c .before .loop .inv .0)
+array-read-bid c = omega (arith, c .before .before .before .pre .few, c .before .loop .inv .0)
 
 bid-requires : tie.Need-bid-requires Inv-loop μ-loop
-bid-requires c κs = (c .before .before .pre, omega (arith, c .before .loop .inv .0))
+bid-requires c κs = (c .before .before .before .pre, omega (arith, c .before .loop .inv .0))
 
 enum-known-response : tie.Need-enum-known-response Inv-loop μ-loop
 enum-known-response c = search needs
@@ -52,10 +49,10 @@ loop-less c = omega arith
 
 loop-again : tie.Need-loop-again Inv-loop μ-loop
 loop-again c =
-    let s = c .before .before .before .before .before in
+    let s = c .before .before .before .before .before .before in
     let at = c .before .before .before .before .loop in (
       omega (arith, at .inv .0),
-      chosen-next (s .args .set .ntasks) (offer (rows (s .args .set)) (marked (s .args .t2)) (marked (s .args .left))) (at .i) (omega arith) (at .inv .1)
+      chosen-next _ (offer (tasksIn (s .args .rows .now)) (marked (s .args .t2)) (marked (s .args .left))) (at .i) (omega arith) (at .inv .1)
           (sym (c .before .before .bid .ensures) ∙ c .enum-told .given .1),
     )
 

@@ -15,11 +15,11 @@ use Rattle.assignment.proofs.ready.Statement.{statement}
 use Rattle.assignment.proofs.ready.Tie as tie
 
 abbrev Inv-loop : tie.InvT-loop
-Inv-loop marks left rules m ready₀ k₀ ready k =
+Inv-loop marks left m rules ready₀ k₀ ready k =
     (k ≤ m) × (length ready ≡ maxTasks) × (marked ready ≡ readyBy k (take m rules) (marked marks) (marked left))
 
 abbrev μ-loop : tie.MeasureT-loop
-μ-loop marks left rules m ready₀ k₀ ready k = m - k
+μ-loop marks left m rules ready₀ k₀ ready k = m - k
 
 -- ---- what the caller grants
 
@@ -32,50 +32,59 @@ rule c = passes-rule (c .args .set) (c .pre)
 long : (c : tie.Start Inv-loop μ-loop) → length (c .args .set .rules) ≡ maxRules
 long c = sym (length-map (c .args .set .rules) _) ∙ c .good .0 .1 .1 .1 .1 .0 .1 .0 .1
 
+count : (c : tie.Start Inv-loop μ-loop) → length (rules (c .args .set)) ≡ c .args .set .nrules
+count c = length-take-le (c .args .set .nrules) (c .args .set .rules) (omega (arith, long c, few c))
+
 -- ---- the needs
+
+returns : tie.Need-returns Inv-loop μ-loop
+returns c =
+    let s = c .before in
+    let none : 0 ≡ length (rules (s .args .set)) = omega (arith, count s) in
+    ready-start _ _ _ ∙ ready-end 0 (rules (s .args .set)) (marked (s .args .t2)) (marked (s .args .t3)) none
 
 loop-holds : tie.Need-loop-holds Inv-loop μ-loop
 loop-holds c = (omega arith, search needs, ready-start _ _ _)
 
 mul-rule : tie.Need-mul-rule Inv-loop μ-loop
-mul-rule c = let h = few (c .before .before .before) in omega arith
+mul-rule c = let h = few (c .before .before .before .before) in omega arith
 
 array-copy-out-rule : tie.Need-array-copy-out-rule Inv-loop μ-loop
-array-copy-out-rule c = let h = few (c .before .before .before) in omega arith
+array-copy-out-rule c = let h = few (c .before .before .before .before) in omega arith
 
 array-read-ready : tie.Need-array-read-ready Inv-loop μ-loop
 array-read-ready c =
-    let s = c .before .before .before .before in
+    let s = c .before .before .before .before .before in
     let h = few s in
     let r = rule s (c .before .before .loop .k) (omega arith) in
     omega arith
 
 array-read-ready-2 : tie.Need-array-read-ready-2 Inv-loop μ-loop
-array-read-ready-2 c = let h = few (c .before .before .before .before) in omega arith
+array-read-ready-2 c = let h = few (c .before .before .before .before .before) in omega arith
 
 array-read-ready-3 : tie.Need-array-read-ready-3 Inv-loop μ-loop
 array-read-ready-3 c =
-    let s = c .before .before .before .before in
+    let s = c .before .before .before .before .before in
     let h = few s in
     let r = rule s (c .before .before .loop .k) (omega arith) in
     omega arith
 
 array-write-ready : tie.Need-array-write-ready Inv-loop μ-loop
 array-write-ready c =
-    let s = c .before .before .before .before in
+    let s = c .before .before .before .before .before in
     let h = few s in
     let r = rule s (c .before .before .loop .k) (omega arith) in
     omega arith
 
 add-k : tie.Need-add-k Inv-loop μ-loop
-add-k c = let h = few (c .before .before .before .before) in omega arith
+add-k c = let h = few (c .before .before .before .before .before) in omega arith
 
 loop-less : tie.Need-loop-less Inv-loop μ-loop
 loop-less c = omega arith
 
 loop-again : tie.Need-loop-again Inv-loop μ-loop
 loop-again c =
-    let s = c .before .before .before .before in
+    let s = c .before .before .before .before .before in
     let h = few s in
     let k = c .before .before .loop .k in
     let r = rule s k (omega arith) in
@@ -86,13 +95,11 @@ loop-again c =
           (getD-take (s .args .set .nrules) (s .args .set .rules) k blankRule (omega arith)) (omega arith) (inv .2),
     )
 
-returns : tie.Need-returns Inv-loop μ-loop
-returns c =
-    let s = c .before .before .before in
+returns-2 : tie.Need-returns-2 Inv-loop μ-loop
+returns-2 c =
+    let s = c .before .before .before .before in
     let inv = c .before .loop .inv in
-    let whole : c .before .loop .k ≡ length (rules (s .args .set)) =
-    omega (arith, inv .0, length-take-le (s .args .set .nrules) (s .args .set .rules) (omega (arith, long s, few s)))
-    in
+    let whole : c .before .loop .k ≡ length (rules (s .args .set)) = omega (arith, inv .0, count s) in
     inv .2 ∙ ready-end (c .before .loop .k) (rules (s .args .set)) (marked (s .args .t2)) (marked (s .args .t3)) whole
 
 pub ready-spec : {M : Type 1} → statement M
@@ -101,6 +108,7 @@ ready-spec =
     (tie.spec
     Inv-loop
     μ-loop
+    returns
     loop-holds
     mul-rule
     array-copy-out-rule
@@ -111,4 +119,4 @@ ready-spec =
     add-k
     loop-less
     loop-again
-    returns)
+    returns-2)

@@ -1,5 +1,4 @@
 -- `response::next` meets its contract: each leap bounds every window, and goes no lower. Assumes nothing.
-use native.Mathlib.Omega.{arith}
 use borrow.Author.Needs.{needs}
 use Rattle.response.proofs.next.Statement.{statement}
 use Rattle.response.proofs.next.Tie as tie
@@ -9,16 +8,16 @@ leap-requires c κs = search needs
 
 leap-requires-2 : tie.Need-leap-requires-2
 leap-requires-2 c κs =
-    let p = c .before .before .pre in
+    let p = c .before .before .before .pre in
     (p .0, (p .1 .0, (p .1 .1 .0, (p .1 .1 .1 .0, c .leap .ensures .1))))
 
 leap-requires-3 : tie.Need-leap-requires-3
 leap-requires-3 c κs =
-    let p = c .before .before .before .pre in
+    let p = c .before .before .before .before .pre in
     (p .0, (p .1 .0, (p .1 .1 .0, (p .1 .1 .1 .0, c .leap2 .ensures .1))))
 
 returns : tie.Need-returns
-returns c = (omega (arith, c .before .before .leap .ensures .0, c .before .leap2 .ensures .0, c .leap3 .ensures .0), c .leap3 .ensures .1)
+returns c = search needs
 
 returns-2 : tie.Need-returns-2
 returns-2 c = search needs

@@ -11,48 +11,42 @@ use Rattle.sets.specs.Bounded.{without}
 use Rattle.sets.specs.Marks.{marked, marked-without}
 use Rattle.taskset.specs.Rows.{maxRules}
 use Rattle.taskset.specs.Calls.{lists}
-use Rattle.taskset.specs.Exact.{Sized, sized-by, passes-counts, passes-sound}
 use Rattle.assignment.specs.Audsley.{feasible}
 use Rattle.assignment.specs.Preemptive.{problem}
-use Rattle.verdict.specs.Cutting.{tried-stays, tried-goes, searched-free, went-on, went-through, less-fewer}
+use Rattle.assignment.specs.Settling.{held-fewer}
+use Rattle.verdict.specs.Cutting.{tried-stays, tried-goes, less-fewer}
 use Rattle.verdict.proofs.try_rule.Statement.{statement}
 use Rattle.verdict.proofs.try_rule.Tie as tie
 
-sized : (c : tie.Start) → Sized (c .args .set)
-sized c = sized-by _ _ (c .args .set) (c .good .0 .1 .1 .0 .1 .0 .1) (c .good .0 .1 .1 .1 .1 .0 .1 .0 .1)
-
 less : (c : tie.Start) → marked (set (c .args .cut .marks) (c .args .k) false) ≡ without (marked (c .args .cut .marks)) (c .args .k)
 less c =
-    let long : length (c .args .cut .marks) ≡ maxRules = sym (length-map (c .args .cut .marks) _) ∙ c .good .1 .0 .1 .1 .0 .1 .0 .1 in
+    let long : length (c .args .cut .marks) ≡ maxRules = sym (length-map (c .args .cut .marks) _) ∙ c .good .1 .1 .0 .1 .1 .0 .1 .0 .1 in
     marked-without (c .args .cut .marks) (c .args .k) (omega (arith, long, c .pre .1 .0))
 
 array-write-less : tie.Need-array-write-less
 array-write-less c = search needs
 
-resume-requires : tie.Need-resume-requires
-resume-requires c κs =
+settle-requires : tie.Need-settle-requires
+settle-requires c κs =
     let s = c .before in
-    (s .pre .0, omega (arith, passes-counts (s .args .set) (sized s) (s .pre .0) .0, searched-free _ _ _ (s .pre .1 .1)))
+    (s .pre .0, (held-fewer _ _ _ (less-fewer _ _ _ (s .args .k) (less s)) _ (s .pre .1 .1 .0), s .pre .1 .1 .1))
 
 -- every level gets filled exactly where the rules without k are feasible
-through : (c : tie.After-resume) → let s = c .before .before in
-    (c .resume .result .free ≡ 0) ↔ T (feasible (problem (lists (s .args .set))) (without (marked (s .args .cut .marks)) (s .args .k)))
+through : (c : tie.After-settle) → let s = c .before .before in
+    (c .settle .result .free ≡ 0) ↔ T (feasible (problem (lists (s .args .set))) (without (marked (s .args .cut .marks)) (s .args .k)))
 through c =
     let s = c .before .before in
-    let l = lists (s .args .set) in
-    subst (λ (f : ℕ → Bool). (c .resume .result .free ≡ 0) ↔ T (feasible (problem l) f)) (less s)
-    (went-through l (passes-sound (s .args .set) (sized s) (s .pre .0)) _ _ (less-fewer _ _ _ (s .args .k) (less s)) _ (s .pre .1 .1) _ (c .resume .ensures))
+    subst (λ (f : ℕ → Bool). (c .settle .result .free ≡ 0) ↔ T (feasible (problem (lists (s .args .set))) f)) (less s) (c .settle .ensures .1 .0)
 
 returns : tie.Need-returns
 returns c = (tried-stays _ _ _ (through (c .before .before) .0 (omega arith)), c .before .before .before .before .pre .1 .1)
 
 returns-2 : tie.Need-returns-2
 returns-2 c =
-    let s = c .before .before .before .before in (
-      less s ∙ tried-goes _ _ _ (λ t. c .if1 .left (omega (arith, through (c .before .before) .1 t))),
-      went-on (lists (s .args .set)) (passes-sound (s .args .set) (sized s) (s .pre .0)) _ _ (less-fewer _ _ _ (s .args .k) (less s)) _ (s .pre .1 .1) _
-          (c .before .before .resume .ensures),
+    let settle = c .before .before .settle .ensures in (
+      less (c .before .before .before .before) ∙ tried-goes _ _ _ (λ t. c .if1 .left (omega (arith, through (c .before .before) .1 t))),
+      (settle .0, settle .1 .1),
     )
 
 pub try-rule-spec : {M : Type 1} → statement M
-try-rule-spec = tie.close (tie.spec array-write-less resume-requires returns returns-2)
+try-rule-spec = tie.close (tie.spec array-write-less settle-requires returns returns-2)

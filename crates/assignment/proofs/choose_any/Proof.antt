@@ -1,0 +1,63 @@
+-- `assignment::choose_any` meets its contract: a ready task known to pass may take the level. Assumes nothing.
+use Prim.Native.Nat.{_-_, _≤_, _<_}
+use native.Mathlib.Omega.{arith}
+use borrow.Author.Needs.{needs}
+use lib.ListN.{length}
+use Rattle.sets.specs.Marks.{marked}
+use Rattle.response.specs.Words.{tasksIn, tasks-length}
+use Rattle.assignment.specs.Settling.{known-any, chosen-any}
+use Rattle.assignment.proofs.choose_any.Statement.{statement}
+use Rattle.assignment.proofs.choose_any.Tie as tie
+
+abbrev Inv-loop : tie.InvT-loop
+Inv-loop rows left ready known j₀ j = j ≤ length (tasksIn rows)
+
+abbrev μ-loop : tie.MeasureT-loop
+μ-loop rows left ready known j₀ j = j
+
+loop-holds : tie.Need-loop-holds Inv-loop μ-loop
+loop-holds c = omega (arith, tasks-length (c .before .args .rows .now))
+
+sub-j : tie.Need-sub-j Inv-loop μ-loop
+sub-j c = search needs
+
+array-read-if1 : tie.Need-array-read-if1 Inv-loop μ-loop
+array-read-if1 c = omega (arith, c .before .before .before .pre .0 .few, c .before .loop .inv)
+
+array-read-if1-2 : tie.Need-array-read-if1-2 Inv-loop μ-loop
+array-read-if1-2 c = omega (arith, c .before .before .before .pre .0 .few, c .before .loop .inv)
+
+returns : tie.Need-returns Inv-loop μ-loop
+returns c =
+    let s = c .before .before .before .before in
+    let at = c .before .before .loop in
+    let here : at .j - 1 < length (tasksIn (s .args .rows .now)) = omega (arith, at .inv) in
+    (here, known-any _ (marked (s .args .t2)) (marked (s .args .left)) (marked (s .args .t3)) (s .pre .1) (at .j - 1) here (c .if1 .taken))
+
+loop-less : tie.Need-loop-less Inv-loop μ-loop
+loop-less c = omega arith
+
+loop-again : tie.Need-loop-again Inv-loop μ-loop
+loop-again c = omega (arith, c .before .before .loop .inv)
+
+choose-requires : tie.Need-choose-requires Inv-loop μ-loop
+choose-requires c κs = c .before .before .before .pre .0
+
+returns-2 : tie.Need-returns-2 Inv-loop μ-loop
+returns-2 c = chosen-any _ _ _ _ (c .choose .ensures)
+
+pub choose-any-spec : {M : Type 1} → statement M
+choose-any-spec =
+    tie.close
+    (tie.spec
+    Inv-loop
+    μ-loop
+    loop-holds
+    sub-j
+    array-read-if1
+    array-read-if1-2
+    returns
+    loop-less
+    loop-again
+    choose-requires
+    returns-2)

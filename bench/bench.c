@@ -1,11 +1,11 @@
 /*
- * bench.c: times orders_solve beside plain_solve on sheets of several kinds,
- * and prints the tables in Markdown.
+ * bench.c: times orders_solve beside plain_solve on task sets of several kinds,
+ * and prints the tables in Markdown. With the word `check` it only compares.
  *
- * A sheet is timed only after both calls gave the same number and left the
- * same bytes. The calls take turns in batches, and the least time of a call
- * counts. It is the processor time of this process, since other programs may
- * run beside it.
+ * A set is timed only after both calls gave the same number and left the same
+ * bytes. The calls take turns in batches, and the least time of a call counts.
+ * It is the processor time of this process, since other programs may run
+ * beside it.
  */
 #define _POSIX_C_SOURCE 199309L
 #include <stdio.h>
@@ -18,7 +18,7 @@ uint64_t plain_solve(const uint8_t *text, size_t text_len, uint8_t *out, size_t 
 
 enum { FULL = 64, RULES = 128, SECOND = 1000000, BATCHES = 25 };
 
-/* A batch lasts at least this long, and a solver gets about this long for a sheet, in seconds. */
+/* A batch lasts at least this long, and a solver gets about this long for a set, in seconds. */
 static const double BATCH = 0.002, BUDGET = 0.6;
 
 struct text {
@@ -26,7 +26,7 @@ struct text {
     size_t len;
 };
 
-/* A kind of sheet, with so many tasks and rules. */
+/* A kind of task set, with so many tasks and rules. */
 struct family {
     const char *name;
     void (*make)(struct text *t, unsigned tasks, unsigned rules);
@@ -261,27 +261,35 @@ static void next_batch(struct measured *m, const struct text *t)
         batch(m, t, m->least < BATCH ? (unsigned)(BATCH / m->least) + 1 : 1);
 }
 
-static void measure(const struct family *f, struct measured *ours, struct measured *plain)
+/* Makes the text, and sees that both calls answer it alike, with a listing. */
+static void compare(const struct family *f, struct text *t, struct measured *a, struct measured *b)
 {
-    static struct text t;
-    t.len = 0;
-    f->make(&t, f->tasks, f->rules);
-    first_call(ours, &t);
-    first_call(plain, &t);
-    if (ours->result != plain->result || memcmp(ours->out, plain->out, sizeof ours->out) != 0) {
+    t->len = 0;
+    f->make(t, f->tasks, f->rules);
+    first_call(a, t);
+    first_call(b, t);
+    if (a->result != b->result || memcmp(a->out, b->out, sizeof a->out) != 0) {
         fprintf(stderr, "%s: results %llu and %llu, or other bytes\n", f->name,
-                (unsigned long long)ours->result, (unsigned long long)plain->result);
+                (unsigned long long)a->result, (unsigned long long)b->result);
         exit(1);
     }
-    if (ours->result < ORDERS_LISTED) {
-        fprintf(stderr, "%s: refused by %llu\n", f->name, (unsigned long long)ours->result);
+    if (a->result < ORDERS_LISTED) {
+        fprintf(stderr, "%s: refused by %llu\n", f->name, (unsigned long long)a->result);
         exit(1);
-    }
-    for (unsigned k = 0; k < BATCHES; k++) {
-        next_batch(ours, &t);
-        next_batch(plain, &t);
     }
 }
+
+static void measure(const struct family *f, struct measured *a, struct measured *b)
+{
+    static struct text t;
+    compare(f, &t, a, b);
+    for (unsigned k = 0; k < BATCHES; k++) {
+        next_batch(a, &t);
+        next_batch(b, &t);
+    }
+}
+
+static struct measured ours = { .solve = orders_solve }, plain = { .solve = plain_solve };
 
 /* ---- tables ---- */
 
@@ -304,10 +312,9 @@ static void print_verdict(const uint8_t *listing)
         printf("order");
 }
 
-/* A table, and what the first sheet in it took. `unit` is the time that the last column counts in; 0 for the first sheet's. */
+/* A table, and what the first set in it took. `unit` is the time that the last column counts in; 0 for the first set's. */
 static double print_table(const char *title, const struct family *f, size_t count, double unit)
 {
-    static struct measured ours = { .solve = orders_solve }, plain = { .solve = plain_solve };
     printf("\n| %s | verdict | ours, µs | plain, µs | ours / plain | ours / our 64-task order |\n", title);
     printf("|---|---|---:|---:|---:|---:|\n");
     for (size_t k = 0; k < count; k++) {
@@ -326,9 +333,23 @@ static double print_table(const char *title, const struct family *f, size_t coun
     return unit;
 }
 
-int main(void)
+static void check(const struct family *f, size_t count)
 {
-    double unit = print_table("64 tasks", families, sizeof families / sizeof families[0], 0);
-    print_table("growth", growth, sizeof growth / sizeof growth[0], unit);
+    static struct text t;
+    for (size_t k = 0; k < count; k++)
+        compare(&f[k], &t, &ours, &plain);
+}
+
+int main(int argc, char **argv)
+{
+    size_t kinds = sizeof families / sizeof families[0], steps = sizeof growth / sizeof growth[0];
+    if (argc > 1 && strcmp(argv[1], "check") == 0) {
+        check(families, kinds);
+        check(growth, steps);
+        printf("bench: %zu task sets, answered alike\n", kinds + steps);
+        return 0;
+    }
+    double unit = print_table("64 tasks", families, kinds, 0);
+    print_table("growth", growth, steps, unit);
     return 0;
 }

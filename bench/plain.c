@@ -12,7 +12,7 @@ enum { MAX_TASKS = 64, MAX_RULES = 128, MAX_PERIOD = 1000000, MAX_DIGITS = 7 };
 struct task { uint64_t execution, period, deadline, jitter, blocking; };
 struct rule { uint64_t higher, lower; };
 
-struct sheet {
+struct task_set {
     struct task tasks[MAX_TASKS];
     struct rule rules[MAX_RULES];
     size_t ntasks, nrules;
@@ -66,7 +66,7 @@ static bool take_numbers(struct reader *r, uint64_t *numbers, size_t count)
 }
 
 /* Adds a task; gives the refusal's number, or 0. */
-static uint64_t add_task(struct sheet *s, struct task t)
+static uint64_t add_task(struct task_set *s, struct task t)
 {
     if (t.period < 1 || t.period > MAX_PERIOD)
         return 1;
@@ -85,7 +85,7 @@ static uint64_t add_task(struct sheet *s, struct task t)
 }
 
 /* Adds a rule; gives the refusal's number, or 0. */
-static uint64_t add_rule(struct sheet *s, struct rule r)
+static uint64_t add_rule(struct task_set *s, struct rule r)
 {
     if (r.higher == r.lower)
         return 6;
@@ -98,7 +98,7 @@ static uint64_t add_rule(struct sheet *s, struct rule r)
 }
 
 /* Reads a line and adds what it says; gives the refusal's number, or 0. */
-static uint64_t read_line(struct sheet *s, struct reader *r)
+static uint64_t read_line(struct task_set *s, struct reader *r)
 {
     uint64_t n[5];
     if (take(r, 't'))
@@ -108,8 +108,8 @@ static uint64_t read_line(struct sheet *s, struct reader *r)
     return 7;
 }
 
-/* Reads a text into an empty sheet; gives the first refusal's number, or 0. */
-static uint64_t read_text(struct sheet *s, const uint8_t *text, size_t len)
+/* Reads a text into an empty task set; gives the first refusal's number, or 0. */
+static uint64_t read_text(struct task_set *s, const uint8_t *text, size_t len)
 {
     struct reader r = { text, len, 0 };
     uint64_t refusal = len > ORDERS_TEXT_MAX ? 8 : 0;
@@ -122,7 +122,7 @@ static uint64_t read_text(struct sheet *s, const uint8_t *text, size_t len)
 /* ---- solving ---- */
 
 /* What task i needs within a window of w, with the other tasks that are left above it. */
-static uint64_t demand(const struct sheet *s, const bool *left, size_t i, uint64_t w)
+static uint64_t demand(const struct task_set *s, const bool *left, size_t i, uint64_t w)
 {
     uint64_t sum = s->tasks[i].blocking + s->tasks[i].execution;
     for (size_t j = 0; j < s->ntasks; j++) {
@@ -134,7 +134,7 @@ static uint64_t demand(const struct sheet *s, const bool *left, size_t i, uint64
 }
 
 /* The response of task i with the other tasks that are left above it; 0 when it is late. */
-static uint64_t response(const struct sheet *s, const bool *left, size_t i)
+static uint64_t response(const struct task_set *s, const bool *left, size_t i)
 {
     const struct task *own = &s->tasks[i];
     uint64_t w = own->blocking + own->execution;
@@ -148,7 +148,7 @@ static uint64_t response(const struct sheet *s, const bool *left, size_t i)
 }
 
 /* Marks the tasks that a rule in play puts above a task that is left. */
-static void mark_held(const struct sheet *s, const bool *in_play, const bool *left, bool *held)
+static void mark_held(const struct task_set *s, const bool *in_play, const bool *left, bool *held)
 {
     memset(held, 0, MAX_TASKS);
     for (size_t k = 0; k < s->nrules; k++)
@@ -157,7 +157,7 @@ static void mark_held(const struct sheet *s, const bool *in_play, const bool *le
 }
 
 /* Gives a level to the last task that may take it; false when none may. */
-static bool fill_level(const struct sheet *s, const bool *in_play, bool *left, size_t level, struct order *order)
+static bool fill_level(const struct task_set *s, const bool *in_play, bool *left, size_t level, struct order *order)
 {
     bool held[MAX_TASKS];
     mark_held(s, in_play, left, held);
@@ -173,7 +173,7 @@ static bool fill_level(const struct sheet *s, const bool *in_play, bool *left, s
 }
 
 /* Fills the levels from the lowest upward; false when no order is valid. */
-static bool find_order(const struct sheet *s, const bool *in_play, struct order *order)
+static bool find_order(const struct task_set *s, const bool *in_play, struct order *order)
 {
     bool left[MAX_TASKS];
     memset(left, 1, sizeof left);
@@ -184,7 +184,7 @@ static bool find_order(const struct sheet *s, const bool *in_play, struct order 
 }
 
 /* Takes each rule out in turn, and puts it back when an order is found without it. */
-static void find_core(const struct sheet *s, bool *in_play)
+static void find_core(const struct task_set *s, bool *in_play)
 {
     struct order order;
     for (size_t k = 0; k < s->nrules; k++) {
@@ -223,14 +223,14 @@ static void put_head(struct listing *l, const char *word, size_t count)
     put_number(l, count, '\n');
 }
 
-static void list_order(const struct sheet *s, const struct order *order, struct listing *l)
+static void list_order(const struct task_set *s, const struct order *order, struct listing *l)
 {
     put_head(l, "order\t", s->ntasks);
     for (size_t k = 0; k < s->ntasks; k++)
         put_row(l, k, order->task[k], order->response[k]);
 }
 
-static void list_core(const struct sheet *s, const bool *core, struct listing *l)
+static void list_core(const struct task_set *s, const bool *core, struct listing *l)
 {
     size_t count = 0;
     for (size_t k = 0; k < s->nrules; k++)
@@ -241,8 +241,8 @@ static void list_core(const struct sheet *s, const bool *core, struct listing *l
             put_row(l, k, s->rules[k].higher, s->rules[k].lower);
 }
 
-/* Solves a sheet and lists the verdict. */
-static void list_verdict(const struct sheet *s, struct listing *l)
+/* Solves a task set and lists the verdict. */
+static void list_verdict(const struct task_set *s, struct listing *l)
 {
     struct order order;
     bool in_play[MAX_RULES];
@@ -258,15 +258,15 @@ static void list_verdict(const struct sheet *s, struct listing *l)
 /* Does what orders_solve does. */
 uint64_t plain_solve(const uint8_t *text, size_t text_len, uint8_t *out, size_t out_len)
 {
-    struct sheet sheet;
+    struct task_set set;
     struct listing listing;
-    uint64_t refusal = read_text(&sheet, text, text_len);
+    uint64_t refusal = read_text(&set, text, text_len);
     if (refusal != 0)
         return refusal;
-    if (sheet.ntasks == 0)
+    if (set.ntasks == 0)
         return 13;
     listing.len = 0;
-    list_verdict(&sheet, &listing);
+    list_verdict(&set, &listing);
     if (out_len < listing.len)
         return 9;
     memcpy(out, listing.bytes, listing.len);

@@ -73,7 +73,8 @@ module _ {M : Type 1} (𝓤 : URA M) (H : Heap 𝓤) (A : Atoms 𝓤) (mem : Mem
   abbrev Line : Contract 𝓤
   Line = tripleOf 𝓤 H A line.signature (line.spec 𝓤 H A mem run)
 
-module _ {M : Type 1} (𝓤 : URA M) (H : Heap 𝓤) (A : Atoms 𝓤) (W : Given 𝓤 H A) (mem : Memory → SProp 𝓤) (run : Routine → Fun 𝓤) (κ : Lft) (q : Share) (s : RefT (List ℕ)) (n : ℕ) (ok : n < 2 ^ 64) where
+module _ {M : Type 1} (𝓤 : URA M) (H : Heap 𝓤) (A : Atoms 𝓤) (W : Given 𝓤 H A) (mem : Memory → SProp 𝓤) (run : Routine → Fun 𝓤) (κ : Lft) (q : Share)
+    (s : RefT (List ℕ)) (n : ℕ) (ok : n < 2 ^ 64) where
   -- the machine value that s has
   abbrev v : Val
   v = sliceVal (s .ptr) (length (s .now))
@@ -107,7 +108,9 @@ module _ {M : Type 1} (𝓤 : URA M) (H : Heap 𝓤) (A : Atoms 𝓤) (W : Given
   goes-stand =
       qed W ((‵ (flft κ q) ⊛ ‵ ftrue) ∷ ‵ (owns (R ∷ usize ∷ []) (s, (n, tt)) at) ∷ []) ∵
       move ! (1 ∷ []) $ fsplit ! $ use1 W (‵ Own ⊛ ‵ Own) (shr-slice-copy 𝓤 H A W (named 0) κ u8 .twice s (v ∷ [])) $ split ! $
-      move ! (0 ∷ 2 ∷ []) $ fjoin ! $ move ! (2 ∷ 0 ∷ []) $ use2 W (raw (Stand 𝓤 H A mem run .pre to-stand)) (qed W ((‵ (flft κ q) ⊛ ‵ ftrue) ∷ ‵ (owns (R ∷ usize ∷ []) (s, (n, tt)) at) ∷ []) ∵ join ! $ frame ! $ done !) $ frame ! $ done !
+      move ! (0 ∷ 2 ∷ []) $ fjoin ! $ move ! (2 ∷ 0 ∷ []) $
+      use2 W (raw (Stand 𝓤 H A mem run .pre to-stand)) (qed W ((‵ (flft κ q) ⊛ ‵ ftrue) ∷ ‵ (owns (R ∷ usize ∷ []) (s, (n, tt)) at) ∷ []) ∵ join ! $
+      frame ! $ done !) $ frame ! $ done !
 
   stand-said : (r : Reader) → ent 𝓤 (ensured 𝓤 H A stand.ended (stand.clauses 𝓤 H A mem run) (κ, tt) (s, (n, tt)) tt r) (fact 𝓤 ((r .text ≡ s) × (r .at ≡ n)))
   stand-said r = exE 𝓤 _ (λ ws. snd∗ 𝓤 (sem 𝓤 H A (lasts stand.ended (κ, tt) (s, (n, tt)) ws)) (fact 𝓤 ((r .text ≡ s) × (r .at ≡ n))))
@@ -117,49 +120,70 @@ module _ {M : Type 1} (𝓤 : URA M) (H : Heap 𝓤) (A : Atoms 𝓤) (W : Given
   to-line r u = (((κ, tt), (q, tt), tt, (r, tt), (u ∷ [], tt)), tt)
 
   goes-line : (r : Reader) (u : Val) → ent 𝓤 (⋆ 𝓤 H A (‵ (B (κ, tt) .own r (u ∷ [])) ∷ (‵ (flft κ q) ⊛ ‵ ftrue) ∷ [])) (Line 𝓤 H A mem run .pre (to-line r u))
-  goes-line r u = qed W (‵ (B (κ, tt) .own r (u ∷ [])) ∷ (‵ (flft κ q) ⊛ ‵ ftrue) ∷ []) ∵ nothing ! $ move ! (1 ∷ 0 ∷ []) $ fjoin ! $ move ! (1 ∷ 0 ∷ []) $ join ! $ frame ! $ done !
+  goes-line r u = qed W (‵ (B (κ, tt) .own r (u ∷ [])) ∷ (‵ (flft κ q) ⊛ ‵ ftrue) ∷ []) ∵ nothing ! $ move ! (1 ∷ 0 ∷ []) $ fjoin ! $
+      move ! (1 ∷ 0 ∷ []) $ join ! $ frame ! $ done !
 
-  line-said : (r : Reader) (t : RefT (List ℕ)) → ent 𝓤 (ensured 𝓤 H A line.ended (line.clauses 𝓤 H A mem run) (κ, tt) (r, tt) tt t) (fact 𝓤 (now t ≡ lineAt (r .text) (r .at)))
+  line-said : (r : Reader) (t : RefT (List ℕ)) → ent 𝓤 (ensured 𝓤 H A line.ended (line.clauses 𝓤 H A mem run) (κ, tt) (r, tt) tt t) (fact 𝓤
+      (now t ≡ lineAt (r .text) (r .at)))
   line-said r t = exE 𝓤 _ (λ ws. snd∗ 𝓤 (sem 𝓤 H A (lasts line.ended (κ, tt) (r, tt) ws)) (fact 𝓤 (now t ≡ lineAt (r .text) (r .at))))
 
   exits : (t : RefT (List ℕ)) (u : Val) → now t ≡ lineAt s n → ent 𝓤 (⋆ 𝓤 H A (‵ (R .own t (u ∷ [])) ∷ (‵ (flft κ q) ⊛ ‵ ftrue) ∷ ‵ Own ∷ [])) (Post u)
   exits t u e =
       qed W (‵ (R .own t (u ∷ [])) ∷ (‵ (flft κ q) ⊛ ‵ ftrue) ∷ ‵ Own ∷ []) ∵
-      suffices ! _ (ends-at 𝓤 H A line-from.ended stayed (line-from.clauses 𝓤 H A mem run) W (((κ, tt), (q, tt), tt, (s, (n, tt)), at), tt) u t (tt, (tt, tt)) (tt, (tt, tt))) $ says ! e $
-      move ! (1 ∷ []) $ frame ! $ nothing ! $ owned ! usize (Is usize) (uint-makes 𝓤 H A W w64) n _ (refl, ok) $ fjoin ! $ move ! (2 ∷ 0 ∷ []) $ fjoin ! $ frame ! $ done !
+      suffices ! _ (ends-at 𝓤 H A line-from.ended stayed (line-from.clauses 𝓤 H A mem run) W (((κ, tt), (q, tt), tt, (s, (n, tt)), at), tt) u t (
+        tt,
+        (tt, tt),
+      ) (tt, (tt, tt))) $ says ! e $
+      move ! (1 ∷ []) $ frame ! $ nothing ! $ owned ! usize (Is usize) (uint-makes 𝓤 H A W w64) n _ (refl, ok) $ fjoin ! $ move ! (2 ∷ 0 ∷ []) $
+      fjoin ! $ frame ! $ done !
 
-  module _ (C : Calls 𝓤 H) (Λ : Loops 𝓤 H) (fm : FmC 𝓤 H (W .laws) C) (known-stand : Triple 𝓤 (C #text·reader·stand) (Stand 𝓤 H A mem run)) (known-line : Triple 𝓤 (C #text·reader·line) (Line 𝓤 H A mem run)) where
+  module _ (C : Calls 𝓤 H) (Λ : Loops 𝓤 H) (fm : FmC 𝓤 H (W .laws) C) (known-stand : Triple 𝓤 (C #text·reader·stand) (Stand 𝓤 H A mem run))
+      (known-line : Triple 𝓤 (C #text·reader·line) (Line 𝓤 H A mem run)) where
     walk : Is R s (v ∷ []) → ent 𝓤 (onEntry 𝓤 H A line-from.signature (κ, tt) (q, tt) (s, (n, tt)) at) (WpFn 𝓤 H C Λ code.function (v ∷ vint w64 n ∷ []) Post)
     walk p =
         qed W (raw (onEntry 𝓤 H A line-from.signature (κ, tt) (q, tt) (s, (n, tt)) at) ∷ []) ∵ enter ! C Λ code.function (v ∷ vint w64 n ∷ []) _ $
-        alloc1 ! (λ l₀. alloc1 ! (λ l₁. alloc1 ! (λ l₂. alloc1 ! (λ l₃. alloc0 ! $ params1 ! $ pass1 ! (init ! 4 refl (shr-slice-lawful 𝓤 H A W (named 0) κ u8 .typed s (v ∷ []) p .0)) $ pass1 ! (init ! 2 refl (tt, record { fits = ok })) $ pass0 ! $
+        alloc1 ! (λ l₀. alloc1 ! (λ l₁. alloc1 ! (λ l₂. alloc1 ! (λ l₃. alloc0 ! $ params1 ! $
+        pass1 ! (init ! 4 refl (shr-slice-lawful 𝓤 H A W (named 0) κ u8 .typed s (v ∷ []) p .0)) $ pass1 ! (init ! 2 refl (tt, record { fits = ok })) $ pass0 ! $
         move ! (8 ∷ []) $ use1 W (raw (Stand 𝓤 H A mem run .pre to-stand) ⊛ ‵ Own) goes-stand $ split ! $
-        calls-at ! fm (Stand 𝓤 H A mem run) known-stand to-stand (and-then ! (load ! (from ! (stop !)) (look ! 6 refl)) (and-then ! (load ! (from ! (stop !)) (look ! 4 refl)) (no-more !))) (λ u.
-        use1 W (later (some (λ (r : Reader). ((‵ (flft κ q) ⊛ ‵ ftrue) ⊛ ‵ (B (κ, tt) .own r (u ∷ []))) ⊛ raw (ensured 𝓤 H A stand.ended (stand.clauses 𝓤 H A mem run) (κ, tt) (s, (n, tt)) tt r)))) (id⊢ 𝓤 _) $ await ! tt $ pick ! (λ r.
-        split ! $ move ! (1 ∷ []) $ use1 W (raw (fact 𝓤 ((r .text ≡ s) × (r .at ≡ n)))) (stand-said r) $ heard ! ((r .text ≡ s) × (r .at ≡ n)) (λ e. split ! $ move ! (1 ∷ []) $
+        calls-at ! fm (Stand 𝓤 H A mem run) known-stand to-stand (and-then ! (load ! (from ! (stop !)) (look ! 6 refl)) (and-then ! (load ! (from !
+        (stop !)) (look ! 4 refl)) (no-more !))) (λ u.
+        use1 W (later (some (λ (r : Reader). ((‵ (flft κ q) ⊛ ‵ ftrue) ⊛ ‵ (B (κ, tt) .own r (u ∷ []))) ⊛ raw (ensured 𝓤 H A stand.ended
+        (stand.clauses 𝓤 H A mem run) (κ, tt) (s, (n, tt)) tt r)))) (id⊢ 𝓤 _) $ await ! tt $ pick ! (λ r.
+        split ! $ move ! (1 ∷ []) $ use1 W (raw (fact 𝓤 ((r .text ≡ s) × (r .at ≡ n)))) (stand-said r) $
+        heard ! ((r .text ≡ s) × (r .at ≡ n)) (λ e. split ! $ move ! (1 ∷ []) $
         -- [what the struct owns; the token; what s owns; room for _3; …; _2; …; _1; …; room for _0; …]
         peeks ! (B (κ, tt)) (Is (B (κ, tt))) (shows 𝓤 H A (B (κ, tt))) r (u ∷ []) (λ is.
         land ! (from ! (stop !)) (init ! 3 refl (LL.lawful (T.the-type αᵉ) (T′.the-laws αᵉ) 𝓤 H A W .typed r _ is .0)) $
         use2 W (raw (Line 𝓤 H A mem run .pre (to-line r u))) (goes-line r u) $
         calls-at ! fm (Line 𝓤 H A mem run) known-line (to-line r u) (and-then ! (load ! (from ! (stop !)) (look ! 2 refl)) (no-more !)) (λ u′.
-        use1 W (later (some (λ (t : RefT (List ℕ)). ((‵ (flft κ q) ⊛ ‵ ftrue) ⊛ ‵ (R .own t (u′ ∷ []))) ⊛ raw (ensured 𝓤 H A line.ended (line.clauses 𝓤 H A mem run) (κ, tt) (r, tt) tt t)))) (id⊢ 𝓤 _) $ await ! tt $ pick ! (λ t.
-        split ! $ move ! (1 ∷ []) $ use1 W (raw (fact 𝓤 (now t ≡ lineAt (r .text) (r .at)))) (line-said r t) $ heard ! (now t ≡ lineAt (r .text) (r .at)) (λ e′. split ! $ move ! (1 ∷ []) $
+        use1 W (later (some (λ (t : RefT (List ℕ)). ((‵ (flft κ q) ⊛ ‵ ftrue) ⊛ ‵ (R .own t (u′ ∷ []))) ⊛ raw (ensured 𝓤 H A line.ended
+        (line.clauses 𝓤 H A mem run) (κ, tt) (r, tt) tt t)))) (id⊢ 𝓤 _) $ await ! tt $ pick ! (λ t.
+        split ! $ move ! (1 ∷ []) $ use1 W (raw (fact 𝓤 (now t ≡ lineAt (r .text) (r .at)))) (line-said r t) $
+        heard ! (now t ≡ lineAt (r .text) (r .at)) (λ e′. split ! $ move ! (1 ∷ []) $
         -- [the result; the token; what s owns; _3; …; _2; …; _1; …; room for _0; …]
         peeks ! R (Is R) (shows 𝓤 H A R) t (u′ ∷ []) (λ is′.
         land ! (from ! (stop !)) (init ! 9 refl (shr-slice-lawful 𝓤 H A W (named 0) κ u8 .typed t _ is′ .0)) $
-        returns ! (look ! 9 refl) $ forget ! 3 refl $ forget ! 5 refl $ forget ! 7 refl $ forget ! 9 refl $ move ! (9 ∷ 10 ∷ []) $ free1 ! $ move ! (7 ∷ 8 ∷ []) $ free1 ! $ move ! (5 ∷ 6 ∷ []) $ free1 ! $ move ! (3 ∷ 4 ∷ []) $ free1 ! $ free0 ! $
+        returns ! (look ! 9 refl) $ forget ! 3 refl $ forget ! 5 refl $ forget ! 7 refl $ forget ! 9 refl $ move ! (9 ∷ 10 ∷ []) $ free1 ! $
+        move ! (7 ∷ 8 ∷ []) $ free1 ! $ move ! (5 ∷ 6 ∷ []) $ free1 ! $ move ! (3 ∷ 4 ∷ []) $ free1 ! $ free0 ! $
         by ! (exits t u′ (e′ ∙ (ap (λ (x : RefT (List ℕ)). lineAt x (r .at)) (e .0) ∙ ap (lineAt s) (e .1))))))))))))))))
 
 module _ {M : Type 1} (𝓤 : URA M) (H : Heap 𝓤) (A : Atoms 𝓤) (W : Given 𝓤 H A) (mem : Memory → SProp 𝓤) (run : Routine → Fun 𝓤) where
-  line-from-walks : (C : Calls 𝓤 H) (Λ : Loops 𝓤 H) → FmC 𝓤 H (W .laws) C → Triple 𝓤 (C #text·reader·stand) (Stand 𝓤 H A mem run) → Triple 𝓤 (C #text·reader·line) (Line 𝓤 H A mem run)
+  line-from-walks : (C : Calls 𝓤 H) (Λ : Loops 𝓤 H) → FmC 𝓤 H (W .laws) C → Triple 𝓤 (C #text·reader·stand) (Stand 𝓤 H A mem run) → Triple 𝓤
+      (C #text·reader·line) (Line 𝓤 H A mem run)
       → Walks 𝓤 H A line-from.ended stayed (WpFn 𝓤 H C Λ code.function) (line-from.clauses 𝓤 H A mem run)
-  line-from-walks C Λ fm known-stand known-line = walked 𝓤 H A line-from.ended stayed (line-from.clauses 𝓤 H A mem run) (WpFn 𝓤 H C Λ code.function) (λ κs. (slice-vals, (uint-vals w64, tt))) (λ κs. (shr-slice-tells (named 0) (κs .0) u8, (uint-tells w64, tt)))
+  line-from-walks C Λ fm known-stand known-line = walked 𝓤 H A line-from.ended stayed (line-from.clauses 𝓤 H A mem run) (WpFn 𝓤 H C Λ code.function)
+      (λ κs. (slice-vals, (uint-vals w64, tt))) (λ κs. (shr-slice-tells (named 0) (κs .0) u8, (uint-tells w64, tt)))
       (λ κs qs bounds a g are. via 𝓤 _ (fst∗ 𝓤 _ (emp 𝓤)) (walk 𝓤 H A W mem run (κs .0) (qs .0) (a .0) (a .1 .0) (are .1 .0 .1) C Λ fm known-stand known-line (are .0)))
 
 line-from-meets : {M : Type 1} (𝓤 : URA M) (H : Heap 𝓤) (A : Atoms 𝓤) (W : Given 𝓤 H A) (mem : Memory → SProp 𝓤) (run : Routine → Fun 𝓤) (𝓣 : Tables 𝓤 H)
     → Triple 𝓤 (𝓣 .C #text·reader·stand) (Stand 𝓤 H A mem run) → Triple 𝓤 (𝓣 .C #text·reader·line) (Line 𝓤 H A mem run)
     → Meets 𝓤 H A line-from.signature (WpFn 𝓤 H (𝓣 .C) (𝓣 .Λ) code.function) (line-from.spec 𝓤 H A mem run)
-line-from-meets 𝓤 H A W mem run 𝓣 known-stand known-line = walk-meets 𝓤 H A line-from.ended stayed W (goes-none-slice 𝓤 H A W 1 (0 ∷ []) tt (plain (λ _. u8)) yes, (goes-none 𝓤 H A W 1 (λ _. usize) yes (λ κs x f. refl), tt)) (line-from.clauses 𝓤 H A mem run) (WpFn 𝓤 H (𝓣 .C) (𝓣 .Λ) code.function) (WpFn-mono 𝓤 H (W .laws) 𝓣 code.function)
+line-from-meets 𝓤 H A W mem run 𝓣 known-stand known-line = walk-meets 𝓤 H A line-from.ended stayed W (
+  goes-none-slice 𝓤 H A W 1 (0 ∷ []) tt (plain
+      (λ _. u8)) yes,
+  (goes-none 𝓤 H A W 1 (λ _. usize) yes (λ κs x f. refl), tt),
+) (line-from.clauses 𝓤 H A mem run) (WpFn 𝓤 H (𝓣 .C) (𝓣 .Λ)
+    code.function) (WpFn-mono 𝓤 H (W .laws) 𝓣 code.function)
     (line-from-walks 𝓤 H A W mem run (𝓣 .C) (𝓣 .Λ) (fmOf 𝓤 H (W .laws) 𝓣) known-stand known-line)
 
 pub line-from-spec : {M : Type 1} → stated.statement M

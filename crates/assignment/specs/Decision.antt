@@ -10,8 +10,8 @@ use Prim.Native.Nat.{ℕ, zero, suc, _+_, _≤_, _<_}
 use native.Mathlib.Nat.{not-suc-le-zero, le-of-suc-le-suc, eq-or-lt-of-le, eq-zero-or-pos}
 use native.Mathlib.Omega.{arith}
 use lib.Dec.{T, leb, ltb, eqb, leb→le, ltb→lt, lt→ltb, eqb→eq, eqb-refl, leb·suc-suc, leb·suc-zero}
-use lib.ListN.{length, getD, drop}
-use lib.Seq.{drop-cons}
+use lib.ListN.{length, getD, drop, length-drop}
+use lib.Seq.{drop-cons, getD-drop}
 use borrow.Author.Tests.{leb-false, eq-eqb}
 use Rattle.sets.specs.Choice.{pick, option, true→T, refuted→false, not→refuted, refuted→not, decided, lt-or-le, same-test, and-intro, and-left, and-right}
 use Rattle.sets.specs.Bounded.{Subset, without, without-still, without-other, all, all-at, all-of, greatest, IsGreatest, Greatest, found, nothing, greatest-is, count, count-less, count-but, count-whole, count-some, count-pos}
@@ -130,7 +130,24 @@ module _ (p : Problem) (inPlay : ℕ → Bool) where
   filled-at all (level i low l t f) zero h = t
   filled-at all (level i low l t f) (suc k) h = filled-at low f k (le-of-suc-le-suc h)
 
-  filled-only : (low : List ℕ) → Filled p inPlay low → (k : ℕ) → k < length low → getD low k 0 < p .tasks
+  -- so the task there passes with any tasks above it that have no level further down
+  pub filled-passes : Lawful p → (low : List ℕ) → Filled p inPlay low → (k : ℕ) → k < length low → (left : ℕ → Bool)
+      → ((j : ℕ) → k < j → j < length low → T (left (getD low j 0)) → ⊥)
+      → T (p .passes (getD low k 0) (without left (getD low k 0)))
+  filled-passes lawful low f k h left out =
+      let i = getD low k 0 in
+      let rest = drop (suc k) low in
+      lawful .fewer i (without left i) (without (unassigned p rest) i)
+      (λ j l t.
+      let still = without-still left i j t in
+      without-other (unassigned p rest) i j (still .1)
+      (unassigned-of p rest j l (λ m.
+      let at = suc k + rank rest j in
+      let same : getD low at 0 ≡ j = sym (getD-drop (suc k) low (rank rest j) 0) ∙ getD-rank rest j m in
+      out at (omega arith) (omega (arith, m, length-drop (suc k) low)) (subst (λ (q : ℕ). T (left q)) (sym same) (still .0)))))
+      (may-pass (unassigned p rest) i (filled-at low f k h))
+
+  pub filled-only : (low : List ℕ) → Filled p inPlay low → (k : ℕ) → k < length low → getD low k 0 < p .tasks
   filled-only all empty k h = absurd (not-suc-le-zero h)
   filled-only all (level i low l t f) zero h = l
   filled-only all (level i low l t f) (suc k) h = filled-only low f k (le-of-suc-le-suc h)

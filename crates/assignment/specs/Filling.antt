@@ -7,7 +7,8 @@ use mathlib.Core.Option.{Option, none, some}
 use Prim.Native.Nat.{ℕ, zero, suc, _+_, _-_, _≤_, _<_}
 use native.Mathlib.Omega.{arith}
 use lib.Dec.{T, ltb, eqb, eqb→eq}
-use lib.ListN.{length, set, replicate, replicate-append-replicate, length-map}
+use lib.ListN.{length, getD, set, replicate, replicate-append-replicate, length-map, length-replicate, List·getD-append}
+use lib.Seq.{getD-append-add}
 use borrow.Author.Tests.{eq-eqb}
 use Rattle.sets.specs.Choice.{pick, option, true→T, and-true}
 use Rattle.sets.specs.Bounded.{without, greatest, Greatest, found, nothing, greatest-is}
@@ -49,6 +50,15 @@ lowest-set n free d x xs e =
     ap (λ (k : ℕ). set (replicate k d ++ (xs ++ replicate (maxTasks - n) d)) free x) before
     ∙ set-replicate free d x (xs ++ replicate (maxTasks - n) d)
     ∙ ap (λ (k : ℕ). replicate k d ++ x ∷ (xs ++ replicate (maxTasks - n) d)) after
+
+pub lowest-at : {A : Type 0} (n : ℕ) (d : A) (xs : List A) (k : ℕ) → k < length xs
+    → getD (lowest n d xs) ((n - length xs) + k) d ≡ getD xs k d
+lowest-at n d xs k h =
+    let free = n - length xs in
+    let rest = xs ++ replicate (maxTasks - n) d in
+    ap (λ (m : ℕ). getD (lowest n d xs) (m + k) d) (sym (length-replicate free d))
+    ∙ getD-append-add (replicate free d) rest k d
+    ∙ List·getD-append xs (replicate (maxTasks - n) d) d k h
 
 -- ---- who was chosen
 

@@ -12,7 +12,6 @@ use Rattle.sets.specs.Bounded.{without, all, all-next, greatest, greatest-at, g
 use Rattle.sets.specs.Marks.{marked, marked-store, marked-without}
 use Rattle.taskset.specs.declared.Rule.{Rule}
 use Rattle.taskset.specs.declared.Task.{Task}
-use Rattle.taskset.specs.Adding.{blankTask}
 use Rattle.response.specs.declared.Response.{Response}
 use Rattle.response.specs.declared.Response.the-variants.{Within, Late}
 use Rattle.response.specs.Equation.{taskAt, responseTime}

@@ -19,7 +19,7 @@ ghost use Rattle.assignment.specs.Orders.{SomeOrder};
 ghost use Rattle.assignment.specs.Audsley.{ready, assign, feasible};
 ghost use Rattle.assignment.specs.Preemptive.{responseAt, problem};
 ghost use Rattle.assignment.specs.Levels.{offer, chosen, Stands, Resumes};
-ghost use Rattle.assignment.specs.Settling.{AnyOf, passing, Known, Held};
+ghost use Rattle.assignment.specs.Settling.{AnyOf, passing, Known, Meets, Held};
 use response::MAX_WORDS;
 use response::ROW;
 use response::Response;
@@ -51,8 +51,10 @@ pub struct Assignment {
     pub left: [bool; MAX_TASKS],
 }
 
-// Where a search stands that keeps no order: how many levels are free, and the tasks left without one.
+// Where a search stands that keeps no responses: the order, of which the first `free` levels are not filled yet, and the tasks
+// left without one.
 pub struct Standing {
+    pub order: [TaskIndex; MAX_TASKS],
     pub free: usize,
     pub left: [bool; MAX_TASKS],
 }
@@ -80,11 +82,10 @@ fn ready(set: TaskSet, marks: [bool; MAX_RULES], left: [bool; MAX_TASKS]) -> [bo
     if m == 0 {
         return left;
     }
-    let rules = set.rules;
     let mut ready = left;
     let mut k = 0;
     while k < m {
-        let rule = rules[k];
+        let rule = set.rules[k];
         let higher = rule.higher.0;
         let lower = rule.lower.0;
         ready[higher] = ready[higher] & !(marks[k] & left[lower]);
@@ -207,15 +208,44 @@ pub fn passing(set: TaskSet, left: [bool; MAX_TASKS]) -> [bool; MAX_TASKS]
     passing
 }
 
-// A ready task that meets its deadline at this level: one that is known to, else the one of `choose`.
+// A ready task that meets its deadline at this level: of the tasks left, the one that is furthest down in another search; where
+// that one is not ready, the one of `choose`.
+fn choose_last(
+    rows: &[u64],
+    ready: [bool; MAX_TASKS],
+    other: Standing,
+    left: [bool; MAX_TASKS],
+) -> Choice
+    requires { ⌜ Rows (tasksIn (now rows)) ⌝ }
+    requires { ⌜ Meets (tasksIn (now rows)) other ⌝ }
+    ensures { λ r. ⌜ AnyOf (tasksIn (now (rows .entry))) (marked ready) (marked left) r ⌝ }
+{
+    let mut level = rows.len() / ROW;
+    while other.free < level {
+        level -= 1;
+        let task = other.order[level];
+        let i = task.0;
+        if ready[i] {
+            return Choice::Takes(task, 0);
+        }
+        if left[i] {
+            break;
+        }
+    }
+    choose(rows, ready, left)
+}
+
+// A ready task that meets its deadline at this level: one that is known to, else the one of `choose_last`.
 fn choose_any(
     rows: &[u64],
     ready: [bool; MAX_TASKS],
     known: [bool; MAX_TASKS],
+    other: Standing,
     left: [bool; MAX_TASKS],
 ) -> Choice
     requires { ⌜ Rows (tasksIn (now rows)) ⌝ }
     requires { ⌜ Known (tasksIn (now rows)) (marked left) (marked known) ⌝ }
+    requires { ⌜ Meets (tasksIn (now rows)) other ⌝ }
     ensures { λ r. ⌜ AnyOf (tasksIn (now (rows .entry))) (marked ready) (marked left) r ⌝ }
 {
     let mut j = rows.len() / ROW;
@@ -225,36 +255,41 @@ fn choose_any(
             return Choice::Takes(TaskIndex(j), 0);
         }
     }
-    choose(rows, ready, left)
+    choose_last(rows, ready, other, left)
 }
 
 // Goes on with a search, giving each level to any task that may take it: every level gets filled exactly when some order keeps
-// the rules in play and meets every deadline.
+// the rules in play and meets every deadline. What `other`, any search in this set, has filled spares responses.
 pub fn settle(
     set: TaskSet,
     marks: [bool; MAX_RULES],
     known: [bool; MAX_TASKS],
+    other: Standing,
     from: Standing,
 ) -> Standing
     requires { ⌜ isMade set ≡ true ⌝ }
     requires { ⌜ Held (lists set) (marked marks) from ⌝ }
     requires { ⌜ Known (rows set) (marked (from .left)) (marked known) ⌝ }
+    requires { ⌜ Meets (rows set) other ⌝ }
     ensures { λ r. ⌜ Held (lists set) (marked marks) r ⌝ }
     ensures decides { λ r. ⌜ (r .free ≡ 0) ↔ T (feasible (problem (lists set)) (marked marks)) ⌝ }
+    ensures meets { λ r. ⌜ Meets (rows set) r ⌝ }
     ensures known { λ r. ⌜ Known (rows set) (marked (r .left)) (marked known) ⌝ }
 {
+    let mut order = from.order;
     let mut free = from.free;
     let mut left = from.left;
     let mut words = [0u64; MAX_WORDS];
     let n = flatten(set, &mut words);
     while 0 < free {
         let ready = ready(set, marks, left);
-        let Choice::Takes(task, _) = choose_any(&words[..n], ready, known, left) else {
-            return Standing { free, left };
+        let Choice::Takes(task, _) = choose_any(&words[..n], ready, known, other, left) else {
+            return Standing { order, free, left };
         };
         free -= 1;
+        order[free] = task;
         let i = task.0;
         left[i] = false;
     }
-    Standing { free, left }
+    Standing { order, free, left }
 }

@@ -1,10 +1,10 @@
 -- The functions of `Equation` give what its relations say, and nothing else does; and less demand never lengthens a
 -- response. All of it for any demand d. Assumes nothing.
-use mathlib.Core.Path.{_≡_, refl, sym, ap, subst}
+use mathlib.Core.Path.{_≡_, refl, sym, ap, ap₂, subst}
 use mathlib.Core.Bool.{Bool, true, false}
 use mathlib.Core.Logic.{⊎-elim}
 use Prim.Native.Nat.{ℕ, zero, suc, _+_, _-_, _≤_, _<_}
-use native.Mathlib.Nat.{le-trans, le-antisymm, eq-or-lt-of-le}
+use native.Mathlib.Nat.{le-refl, le-trans, le-antisymm, eq-or-lt-of-le}
 use native.Mathlib.Omega.{arith}
 use borrow.Author.Tests.{leb-true, leb-false}
 use lib.Dec.{leb}
@@ -83,6 +83,19 @@ module _ (d : ℕ → ℕ) where
   -- where d never falls, a bound may be moved up to its demand
   pub climb : ((v w : ℕ) → v ≤ w → d v ≤ d w) → (w : ℕ) → Bounds d w → Bounds d (d w)
   climb mono w b v low met = le-trans (mono w v (b v low met)) met
+
+-- ---- demands that agree up to room have the same window up to it
+
+same-from : (d e : ℕ → ℕ) (fuel w : ℕ) → ((v : ℕ) → w ≤ v → v < w + fuel → d v ≡ e v) → windowFrom d fuel w ≡ windowFrom e fuel w
+unfolding windowFrom
+same-from d e zero w same = refl
+same-from d e (suc fuel) w same =
+    ap₂ (λ (x : ℕ) (later : Window). pick (leb x w) (At w) later) (same w (le-refl w) (omega arith))
+    (same-from d e fuel (suc w) (λ v low high. same v (omega arith) (omega arith)))
+
+pub window-same : (d e : ℕ → ℕ) (room : ℕ) → ((w : ℕ) → 1 ≤ w → w ≤ room → d w ≡ e w) → windowOf d room ≡ windowOf e room
+unfolding windowOf
+window-same d e room same = same-from d e room 1 (λ v low high. same v low (omega arith))
 
 -- ---- less demand, no longer a response
 

@@ -1,13 +1,13 @@
 -- Rounding up, and what follows for demand: it grows with w and with the tasks above, and it is far from what a word
 -- holds. Assumes nothing.
-use mathlib.Core.Path.{_≡_, sym, _∙_}
-use mathlib.Core.Bool.{Bool}
+use mathlib.Core.Path.{_≡_, refl, sym, _∙_}
+use mathlib.Core.Bool.{Bool, true}
 use mathlib.Core.List.{List}
 use mathlib.Core.Logic.{⊎-elim}
-use Prim.Native.Nat.{ℕ, _+_, _-_, _*_, _/_, _≤_}
+use Prim.Native.Nat.{ℕ, _+_, _-_, _*_, _/_, _≤_, _<_}
 use native.Mathlib.Nat.{le-refl, le-trans, le-antisymm, lt-of-lt-of-le, add-le-add, eq-zero-or-pos, div-mul-le-self, le-div-iff-mul-le, lt-div-mul-add, div-lt-iff-lt-mul, mul-le-mul, mul-le-mul-left, mul-le-mul-right, suc-mul, one-mul, div-zero, le-of-eq, le-of-suc-le-suc}
 use native.Mathlib.Omega.{arith}
-use lib.ListN.{length}
+use lib.ListN.{length, getD}
 use Rattle.sets.specs.Bounded.{Subset}
 use Rattle.sets.specs.Sum.{sum, sum-mono, sum-le}
 use Rattle.taskset.specs.declared.Task.{Task}
@@ -41,6 +41,10 @@ ceil-one x t low high =
     let pos : 1 ≤ t = le-trans low high in
     le-antisymm (ceil-least x t 1 pos (omega arith)) (le-div-iff-mul-le pos .1 (omega arith))
 
+-- and q × c, for c no more than t, is no more than x and a t
+pub ceil-mul-le : (x t c q : ℕ) → q ≡ ceil x t → c ≤ t → q * c ≤ x + t
+ceil-mul-le x t c q e h = rw e (omega (arith, mul-le-mul-left (ceil x t) h, div-mul-le-self (x + (t - 1)) t))
+
 -- ---- demand
 
 pub interference-mono : (t : Task) (v w : ℕ) → v ≤ w → interference t v ≤ interference t w
@@ -51,17 +55,10 @@ interference-mono t v w h = mul-le-mul-right (t .execution) (ceil-mono (v + t .j
 pub interference-le : (t : Task) (w : ℕ) → InRanges t → interference t w ≤ w + 2 * maxPeriod
 unfolding interference
 interference-le t w r =
-    let whole = mul-le-mul-left (ceil (w + t .jitter) (t .period)) (r .execution .1) in
-    omega (arith, div-mul-le-self (w + t .jitter + (t .period - 1)) (t .period), r .period, r .jitter)
+    let q = ceil (w + t .jitter) (t .period) in
+    omega (arith, ceil-mul-le (w + t .jitter) (t .period) (t .execution) q refl (r .execution .1), r .period, r .jitter)
 
 module _ (tasks : List Task) (i : ℕ) where
-  pub demand-mono : (above : ℕ → Bool) (v w : ℕ) → v ≤ w → demand tasks i above v ≤ demand tasks i above w
-  unfolding demand
-  demand-mono above v w h =
-      add-le-add (le-refl (taskAt tasks i .blocking + taskAt tasks i .execution))
-      (sum-mono (length tasks) above above (λ j. interference (taskAt tasks j) v) (λ j. interference (taskAt tasks j) w)
-      (λ j l t. t) (λ j l t. interference-mono (taskAt tasks j) v w h))
-
   pub demand-fewer : (fewer above : ℕ → Bool) → Subset (length tasks) fewer above → (w : ℕ)
       → demand tasks i fewer w ≤ demand tasks i above w
   unfolding demand
@@ -77,20 +74,49 @@ module _ (tasks : List Task) (i : ℕ) where
   fewer-above fewer above sub =
       less-demand (demand tasks i fewer) (demand tasks i above) (demand-fewer fewer above sub) (taskAt tasks i .jitter)
 
--- ---- of tasks that a set may have
-
--- at w = 1 a task is released once
-pub interference-one : (t : Task) → InRanges t → t .execution ≡ interference t 1
+-- a task is released once in a window from 1 on whose end, its jitter later, is no later than its period
+pub interference-once : (t : Task) (w : ℕ) → 1 ≤ w → w + t .jitter ≤ t .period → interference t w ≡ t .execution
 unfolding interference
-interference-one t r =
-    let once : ceil (1 + t .jitter) (t .period) ≡ 1 = ceil-one (1 + t .jitter) (t .period) (omega arith) (omega (arith, r .jitter)) in
-    rw once (sym (one-mul (t .execution)))
+interference-once t w low high =
+    let once : ceil (w + t .jitter) (t .period) ≡ 1 = ceil-one (w + t .jitter) (t .period) (omega arith) high in
+    rw once (one-mul (t .execution))
 
--- the interference of 64 tasks is far from what a word holds
-pub interference-sum : (tasks : List Task) → Rows tasks → (j : ℕ) (above : ℕ → Bool) (w : ℕ) → w ≤ maxPeriod → j ≤ length tasks
-    → sum j above (λ k. interference (taskAt tasks k) w) ≤ maxTasks * (3 * maxPeriod)
-interference-sum tasks ok j above w short h =
-    let each : w + 2 * maxPeriod ≤ 3 * maxPeriod = omega arith in
-    le-trans
-    (sum-le j above (λ k. interference (taskAt tasks k) w) (w + 2 * maxPeriod) (λ k l t. interference-le (taskAt tasks k) w (ok .each k (lt-of-lt-of-le l h))))
-    (mul-le-mul (le-trans h (ok .few)) each)
+-- ---- of a load: a base, and tasks that are kept beside it, as indices
+
+abbrev pub every : ℕ → Bool
+every k = true
+
+abbrev pub keptAt : List Task → List ℕ → ℕ → Task
+keptAt tasks kept k = taskAt tasks (getD kept k 0)
+
+-- B + C of a task, and the C of each task above at most; and some of a set's tasks
+pub record IsLoad (base : ℕ) (tasks : List Task) (kept : List ℕ) : Type 0 where
+  pub rows : Rows tasks
+  pub low : 1 ≤ base
+  pub high : base ≤ (maxTasks + 2) * maxPeriod
+  pub few : length kept ≤ maxTasks
+  pub inside : (k : ℕ) → k < length kept → getD kept k 0 < length tasks
+
+-- its demand
+unfoldable pub total : ℕ → List Task → List ℕ → ℕ → ℕ
+total base tasks kept w = base + sum (length kept) every (λ k. interference (keptAt tasks kept k) w)
+
+pub total-mono : (base : ℕ) (tasks : List Task) (kept : List ℕ) (v w : ℕ) → v ≤ w → total base tasks kept v ≤ total base tasks kept w
+unfolding total
+total-mono base tasks kept v w h =
+    add-le-add (le-refl base)
+    (sum-mono (length kept) every every (λ k. interference (keptAt tasks kept k) v) (λ k. interference (keptAt tasks kept k) w)
+    (λ k l t. t) (λ k l t. interference-mono (keptAt tasks kept k) v w h))
+
+module _ {base : ℕ} {tasks : List Task} {kept : List ℕ} (load : IsLoad base tasks kept) where
+  pub kept-row : (k : ℕ) → k < length kept → InRanges (keptAt tasks kept k)
+  kept-row k h = load .rows .each (getD kept k 0) (load .inside k h)
+
+  -- the interference of 64 tasks is far from what a word holds
+  pub interference-sum : (j : ℕ) (w : ℕ) → w ≤ maxPeriod → j ≤ length kept
+      → sum j every (λ k. interference (keptAt tasks kept k) w) ≤ maxTasks * (3 * maxPeriod)
+  interference-sum j w short h =
+      let each : w + 2 * maxPeriod ≤ 3 * maxPeriod = omega arith in
+      le-trans
+      (sum-le j every (λ k. interference (keptAt tasks kept k) w) (w + 2 * maxPeriod) (λ k l t. interference-le (keptAt tasks kept k) w (kept-row k (lt-of-lt-of-le l h))))
+      (mul-le-mul (le-trans h (load .few)) each)

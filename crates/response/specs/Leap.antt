@@ -1,5 +1,5 @@
--- Bounds below every window of a task, for the climb to start from and to leap to; and the answers of the search.
--- With v at least w, a task above brings at least what it brings at w, and at least (v + J) × C / T. Whichever of the two is taken
+-- Bounds below every window of a base and tasks, for the climb to start from and to leap to; and the answers of the search.
+-- With v at least w, a task brings at least what it brings at w, and at least (v + J) × C / T. Whichever of the two is taken
 -- for each task, a window v has fixed + v × rate ≤ v × scale, and so lies at or above fixed / (scale − rate). Assumes nothing.
 use mathlib.Core.Path.{_≡_, refl, sym, ap, _∙_, subst}
 use mathlib.Core.Bool.{Bool, true, false}
@@ -11,16 +11,15 @@ use lib.Dec.{leb, ltb}
 use lib.ListN.{length}
 use borrow.Author.Tests.{leb-true, leb-false, lt-ltb, le-ltb, le-leb, lt-leb}
 use Rattle.sets.specs.Choice.{pick}
-use Rattle.sets.specs.Sum.{sum, sum-turn, sum-le, sum-scaled}
+use Rattle.sets.specs.Sum.{sum, sum-start, sum-turn, sum-le, sum-scaled}
 use Rattle.taskset.specs.declared.Task.{Task}
-use Rattle.taskset.specs.Rows.{maxTasks, maxPeriod, InRanges}
+use Rattle.taskset.specs.Rows.{maxPeriod, InRanges}
 use Rattle.response.specs.declared.Part.{Part}
 use Rattle.response.specs.declared.Window.{Window}
 use Rattle.response.specs.declared.Response.the-variants.{Late}
 use Rattle.response.specs.Equation.{ceil, taskAt, interference, demand, windowOf, Says, respond, responseOf}
-use Rattle.response.specs.Words.{Rows}
 use Rattle.response.specs.Agreement.{Bounds, response-is, response-both, climb}
-use Rattle.response.specs.Demand.{ceil-above, ceil-least, interference-mono, interference-le, demand-mono}
+use Rattle.response.specs.Demand.{ceil-above, ceil-least, interference-mono, interference-le, every, keptAt, IsLoad, total, total-mono, kept-row}
 
 -- ---- what a task adds to a bound
 
@@ -45,8 +44,8 @@ fixedPart w reach t = pick (ends t w reach) (rate t * t .jitter) (releases t w *
 unfoldable pub ratePart : ℕ → ℕ → Task → ℕ
 ratePart w reach t = pick (ends t w reach) (rate t) 0
 
-abbrev pub partOf : Bool → Task → ℕ → ℕ → Part
-partOf above t w reach = record { fixed = pick above (fixedPart w reach t) 0; rate = pick above (ratePart w reach t) 0 }
+abbrev pub partOf : Task → ℕ → ℕ → Part
+partOf t w reach = record { fixed = fixedPart w reach t; rate = ratePart w reach t }
 
 -- the bound of a fixed part and a rate; a rate of the whole processor leaves no window
 unfoldable pub boundOf : ℕ → ℕ → ℕ
@@ -107,14 +106,14 @@ counted t r w short q e =
       over-jitter = let small : t .jitter ≤ maxPeriod = omega (arith, r .jitter, r .period) in mul-le-mul (rate-whole t r) small;
     }
 
-module _ (t : Task) (w q : ℕ) (c : Counted t w q) (above : Bool) (reach : ℕ) (on : above ≡ true) where
-  pub part-ends : q * t .period - t .jitter < reach → record { fixed = rate t * t .jitter; rate = rate t } ≡ partOf above t w reach
+module _ (t : Task) (w q : ℕ) (c : Counted t w q) (reach : ℕ) where
+  pub part-ends : q * t .period - t .jitter < reach → record { fixed = rate t * t .jitter; rate = rate t } ≡ partOf t w reach
   unfolding fixedPart ratePart
-  part-ends h = rw (on, lt-ltb (releases t w * t .period - t .jitter) reach (rw (c .exact) at h))
+  part-ends h = rw (lt-ltb (releases t w * t .period - t .jitter) reach (rw (c .exact) at h))
 
-  pub part-lasts : reach ≤ q * t .period - t .jitter → record { fixed = q * t .execution * scale; rate = 0 } ≡ partOf above t w reach
+  pub part-lasts : reach ≤ q * t .period - t .jitter → record { fixed = q * t .execution * scale; rate = 0 } ≡ partOf t w reach
   unfolding fixedPart ratePart
-  part-lasts h = rw (on, le-ltb (releases t w * t .period - t .jitter) reach (rw (c .exact) at h), c .exact)
+  part-lasts h = rw (le-ltb (releases t w * t .period - t .jitter) reach (rw (c .exact) at h), c .exact)
 
 pub fixed-le : (t : Task) (w reach : ℕ) → InRanges t → w ≤ maxPeriod → fixedPart w reach t ≤ 3 * maxPeriod * scale
 unfolding fixedPart
@@ -124,9 +123,6 @@ fixed-le t w reach r short = go (ends t w reach) (counted t r w short (releases 
         → pick b (rate t * t .jitter) (releases t w * t .execution * scale) ≤ 3 * maxPeriod * scale
     go true c = omega (arith, c .over-jitter)
     go false c = mul-le-mul-right scale (c .brings)
-
-pub part-none : (above : Bool) (t : Task) (w reach : ℕ) → above ≡ false → record { fixed = 0; rate = 0 } ≡ partOf above t w reach
-part-none above t w reach a = rw a
 
 pub bound-whole : (fixed rate : ℕ) → scale ≤ rate → maxPeriod + 1 ≡ boundOf fixed rate
 unfolding boundOf
@@ -138,66 +134,69 @@ bound-least fixed rate h = rw (lt-leb scale rate h)
 
 -- ---- of tasks that a set may have
 
-module _ (tasks : List Task) (ok : Rows tasks) (above : ℕ → Bool) (w reach : ℕ) where
+module _ (tasks : List Task) (kept : List ℕ) (w reach : ℕ) where
   abbrev fixed-at : ℕ → ℕ
-  fixed-at k = fixedPart w reach (taskAt tasks k)
+  fixed-at k = fixedPart w reach (keptAt tasks kept k)
 
   abbrev rate-at : ℕ → ℕ
-  rate-at k = ratePart w reach (taskAt tasks k)
+  rate-at k = ratePart w reach (keptAt tasks kept k)
 
-  pub fixed-sum : (j : ℕ) → w ≤ maxPeriod → j ≤ length tasks → sum j above fixed-at ≤ maxTasks * (3 * maxPeriod * scale)
-  fixed-sum j short h =
-      le-trans (sum-le j above fixed-at (3 * maxPeriod * scale) (λ k l t. fixed-le (taskAt tasks k) w reach (ok .each k (lt-of-lt-of-le l h)) short))
-      (mul-le-mul-right (3 * maxPeriod * scale) (le-trans h (ok .few)))
+  -- the sums of a loop over them: of a base and the parts of the first n
+  pub record Parts (base n fixed rate : ℕ) : Type 0 where
+    pub fixed-is : fixed ≡ base * scale + sum n every fixed-at
+    pub rate-is : rate ≡ 0 + sum n every rate-at
 
-  pub rate-sum : (j : ℕ) → j ≤ length tasks → sum j above rate-at ≤ maxTasks * scale
-  rate-sum j h =
-      le-trans (sum-le j above rate-at scale (λ k l t. rate-part-le (taskAt tasks k) w reach (ok .each k (lt-of-lt-of-le l h))))
-      (mul-le-mul-right scale (le-trans h (ok .few)))
+  pub parts-none : (base : ℕ) → Parts base 0 (base * scale) 0
+  parts-none base = record { fixed-is = sum-start (base * scale) every fixed-at; rate-is = sum-start 0 every rate-at }
 
-  -- the sums of a loop over them, one task more
-  pub parts-turn : (base fixed rate j : ℕ) (t : Task) (p : Part) → fixed ≡ base + sum j above fixed-at → rate ≡ 0 + sum j above rate-at
-      → t ≡ taskAt tasks j → p ≡ partOf (above j) t w reach
-      → (fixed + p .fixed ≡ base + sum (j + 1) above fixed-at) × (rate + p .rate ≡ 0 + sum (j + 1) above rate-at)
-  parts-turn base fixed rate j t p e f read q =
-      let part = rw read at q in (
-        sum-turn fixed base j above fixed-at (p .fixed) e (ap (λ (x : Part). x .fixed) part),
-        sum-turn rate 0 j above rate-at (p .rate) f (ap (λ (x : Part). x .rate) part),
-      )
+  pub parts-more : (base n fixed rate : ℕ) (t : Task) (p : Part) → Parts base n fixed rate → t ≡ keptAt tasks kept n → p ≡ partOf t w reach
+      → Parts base (n + 1) (fixed + p .fixed) (rate + p .rate)
+  parts-more base n fixed rate t p sums read e =
+      let part = rw read at e in
+      record {
+        fixed-is = sum-turn fixed (base * scale) n every fixed-at (p .fixed) (sums .fixed-is) (ap (λ (x : Part). x .fixed) part);
+        rate-is = sum-turn rate 0 n every rate-at (p .rate) (sums .rate-is) (ap (λ (x : Part). x .rate) part);
+      }
 
-  -- the bound
-  pub leap-bounds : (i base fixed rate : ℕ) → i < length tasks → base ≡ taskAt tasks i .blocking + taskAt tasks i .execution
-      → Bounds (demand tasks i above) w
-      → fixed ≡ base * scale + sum (length tasks) above fixed-at
-      → rate ≡ sum (length tasks) above rate-at
-      → Bounds (demand tasks i above) (boundOf fixed rate)
-  unfolding demand boundOf
-  leap-bounds i base fixed rate here own b e f v low met = go (leb scale rate) refl
-    where
-      -- a window has fixed + v × rate ≤ v × scale
-      spread : fixed + v * rate ≤ scale * v
-      spread =
-          let s =
-          sum-scaled (length tasks) above fixed-at rate-at (λ j. interference (taskAt tasks j) v) v scale
-          (λ j l t. part-le (taskAt tasks j) w reach v (ok .each j l .period .0) (b v low met))
-          in
-          omega (arith, s, e, ap (λ (r : ℕ). v * r) f)
+  module _ (base n fixed rate : ℕ) (sums : Parts base n fixed rate) (load : IsLoad base tasks kept) where
+    pub parts-fit : w ≤ maxPeriod → n ≤ length kept → (fixed + scale < 2 ^ 64) × (rate < 2 ^ 64)
+    parts-fit short h =
+        let few = le-trans h (load .few) in
+        let row : (k : ℕ) → k < n → InRanges (keptAt tasks kept k) = λ k l. kept-row load k (lt-of-lt-of-le l h) in
+        let a = sum-le n every fixed-at (3 * maxPeriod * scale) (λ k l t. fixed-le (keptAt tasks kept k) w reach (row k l) short) in
+        let b = sum-le n every rate-at scale (λ k l t. rate-part-le (keptAt tasks kept k) w reach (row k l)) in
+        (omega (arith, a, few, load .high, sums .fixed-is), omega (arith, b, few, sums .rate-is))
 
-      go : (c : Bool) → leb scale rate ≡ c → pick c (maxPeriod + 1) (ceil fixed (scale - rate)) ≤ v
-      go true g = absurd (omega (arith, spread, mul-le-mul-left v (leb-true scale rate g), e, own, ok .each i here .execution, mul-comm v scale))
-      go false g =
-          let under = leb-false scale rate g in
-          ceil-least fixed (scale - rate) v (omega (arith, under)) (omega (arith, spread, mul-sub v scale rate, mul-comm v scale))
+    -- the bound
+    pub leap-bounds : Bounds (total base tasks kept) w → n ≡ length kept → Bounds (total base tasks kept) (boundOf fixed rate)
+    unfolding total boundOf
+    leap-bounds b end v low met = go (leb scale rate) refl
+      where
+        -- a window has fixed + v × rate ≤ v × scale
+        spread : fixed + v * rate ≤ scale * v
+        spread =
+            let s =
+            sum-scaled n every fixed-at rate-at (λ k. interference (keptAt tasks kept k) v) v scale
+            (λ k l t. part-le (keptAt tasks kept k) w reach v (kept-row load k (omega (arith, l, end)) .period .0) (b v low met))
+            in
+            let m = rw (← end) at met in
+            omega (arith, s, m, sums .fixed-is, ap (λ (r : ℕ). v * r) (sums .rate-is))
+
+        go : (c : Bool) → leb scale rate ≡ c → pick c (maxPeriod + 1) (ceil fixed (scale - rate)) ≤ v
+        go true g = absurd (omega (arith, spread, mul-le-mul-left v (leb-true scale rate g), sums .fixed-is, load .low, mul-comm v scale))
+        go false g =
+            let under = leb-false scale rate g in
+            ceil-least fixed (scale - rate) v (omega (arith, under)) (omega (arith, spread, mul-sub v scale rate, mul-comm v scale))
 
 -- ---- the search
 
--- it starts at demand(1)
-pub start-bounds : (tasks : List Task) → Rows tasks → (i : ℕ) → i < length tasks → (above : ℕ → Bool) (start : ℕ)
-    → start ≡ demand tasks i above 1 → (1 ≤ start) × Bounds (demand tasks i above) start
-unfolding demand
-start-bounds tasks ok i here above start e = (
-  omega (arith, ok .each i here .execution),
-  subst (Bounds (demand tasks i above)) (sym e) (climb (demand tasks i above) (demand-mono tasks i above) 1 (λ v low met. low)),
+-- it starts at the demand at 1
+pub start-bounds : (base : ℕ) (tasks : List Task) (kept : List ℕ) (start : ℕ) → 1 ≤ base → start ≡ total base tasks kept 1
+    → (1 ≤ start) × Bounds (total base tasks kept) start
+unfolding total
+start-bounds base tasks kept start pos e = (
+  omega (arith, pos, e),
+  subst (Bounds (total base tasks kept)) (sym e) (climb (total base tasks kept) (total-mono base tasks kept) 1 (λ v low met. low)),
 )
 
 -- its answers for a task that was read

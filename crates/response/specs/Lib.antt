@@ -2,4 +2,5 @@ pub mod Equation
 pub mod Words
 pub mod Agreement
 pub mod Demand
+pub mod Gather
 pub mod Leap

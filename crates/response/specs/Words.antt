@@ -1,13 +1,14 @@
 -- The rows of a task set as words, five a row: what the search is handed as a slice. Assumes nothing.
-use mathlib.Core.Path.{_≡_, refl, sym, ap, ap₂, _∙_, subst}
+use mathlib.Core.Path.{_≡_, sym, ap, ap₂, _∙_, subst}
 use mathlib.Core.Bool.{true}
 use mathlib.Core.List.{List, [], _∷_, _++_, append-assoc}
-use Prim.Native.Nat.{ℕ, zero, suc, _+_, _*_, _/_, _≤_, _<_}
-use native.Mathlib.Nat.{not-suc-le-zero, le-of-suc-le-suc, add-zero}
+use Prim.Native.Nat.{ℕ, suc, _+_, _*_, _/_, _≤_, _<_}
+use native.Mathlib.Nat.{add-zero}
 use native.Mathlib.Omega.{arith}
 use lib.ListN.{length, getD, take, drop, set, length-take, List·getD-append}
 use lib.Seq.{length-take-le, getD-take, getD-append-add, ext-getD, sets-eq}
 use borrow.Author.Count.{below-more}
+use Rattle.sets.specs.Marks.{table, length-table, getD-table}
 use Rattle.taskset.specs.declared.Task.{Task}
 use Rattle.taskset.specs.declared.TaskSet.{TaskSet}
 use Rattle.taskset.specs.Rows.{maxTasks, InRanges}
@@ -30,14 +31,9 @@ rowAt ws i =
       blocking = getD ws (5 * i + 4) 0;
     }
 
--- f 0 to f (n − 1)
-abbrev tabulate : {A : Type 0} → ℕ → (ℕ → A) → List A
-tabulate zero f = []
-tabulate (suc n) f = f 0 ∷ tabulate n (λ j. f (suc j))
-
 -- the tasks whose rows the words are; what is left over is no row
 unfoldable pub tasksIn : List ℕ → List Task
-tasksIn ws = tabulate (length ws / 5) (rowAt ws)
+tasksIn ws = table (length ws / 5) (rowAt ws)
 
 -- tasks that a set may have: few enough, and each within its ranges
 pub record Rows (tasks : List Task) : Type 0 where
@@ -55,22 +51,13 @@ set-rows s made =
 
 -- ---- the tasks, one by one
 
-length-tabulate : {A : Type 0} (n : ℕ) (f : ℕ → A) → length (tabulate n f) ≡ n
-length-tabulate zero f = refl
-length-tabulate (suc n) f = ap suc (length-tabulate n (λ j. f (suc j)))
-
-getD-tabulate : {A : Type 0} (n : ℕ) (f : ℕ → A) (d : A) (j : ℕ) → j < n → getD (tabulate n f) j d ≡ f j
-getD-tabulate zero f d j h = absurd (not-suc-le-zero h)
-getD-tabulate (suc n) f d zero h = refl
-getD-tabulate (suc n) f d (suc j) h = getD-tabulate n (λ k. f (suc k)) d j (le-of-suc-le-suc h)
-
 pub tasks-length : (ws : List ℕ) → length (tasksIn ws) ≡ length ws / 5
 unfolding tasksIn
-tasks-length ws = length-tabulate (length ws / 5) (rowAt ws)
+tasks-length ws = length-table (length ws / 5) (rowAt ws)
 
 pub tasks-at : (ws : List ℕ) (j : ℕ) → j < length (tasksIn ws) → taskAt (tasksIn ws) j ≡ rowAt ws j
 unfolding tasksIn
-tasks-at ws j h = getD-tabulate (length ws / 5) (rowAt ws) blankTask j (omega (arith, length-tabulate (length ws / 5) (rowAt ws)))
+tasks-at ws j h = getD-table (length ws / 5) (rowAt ws) blankTask j (omega (arith, length-table (length ws / 5) (rowAt ws)))
 
 -- so many rows, and few enough
 pub tasks-count : (ws : List ℕ) → Rows (tasksIn ws) → (length (tasksIn ws) ≡ length ws / 5) × (length ws / 5 ≤ maxTasks)

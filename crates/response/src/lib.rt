@@ -4,14 +4,15 @@ ghost use mathlib.Core.Path.{_≡_};
 ghost use mathlib.Core.Bool.{true};
 ghost use Prim.Native.Nat.{_+_, _^_, _≤_, _<_};
 ghost use lib.ListN.{length, take};
-ghost use Rattle.sets.specs.Choice.{pick};
 ghost use Rattle.sets.specs.Marks.{marked};
-ghost use Rattle.taskset.specs.Rows.{maxPeriod, InRanges};
+ghost use Rattle.taskset.specs.Rows.{maxTasks, maxPeriod, InRanges};
 ghost use Rattle.taskset.specs.Adding.{rows, isMade};
-ghost use Rattle.response.specs.Equation.{ceil, taskAt, interference, demand, windowOf, responseTime, SaysResponse};
+ghost use Rattle.response.specs.Equation.{ceil, taskAt, interference, windowOf, responseTime, SaysResponse};
 ghost use Rattle.response.specs.Words.{maxWords, tasksIn, Rows};
-ghost use Rattle.response.specs.Leap.{scale, partOf, boundOf};
 ghost use Rattle.response.specs.Agreement.{Bounds};
+ghost use Rattle.response.specs.Demand.{IsLoad, total};
+ghost use Rattle.response.specs.Gather.{shareOf, StandsFor};
+ghost use Rattle.response.specs.Leap.{scale, partOf, boundOf};
 use taskset::MAX_PERIOD;
 use taskset::MAX_TASKS;
 use taskset::Task;
@@ -26,6 +27,13 @@ pub const MAX_WORDS: usize = ROW * MAX_TASKS;
 
 // 2³²: a load of this many parts is the whole processor.
 const SCALE: u64 = 4294967296;
+
+// What a climb goes over: a base, how many tasks beside it, and the demand of both at 1.
+pub struct Load {
+    pub base: u64,
+    pub count: usize,
+    pub start: u64,
+}
 
 // What a task adds to a bound, in parts of SCALE: once, and for each microsecond of the window.
 pub struct Part {
@@ -91,86 +99,50 @@ fn ceil_div(x: u64, t: u64) -> u64
     (x + (t - 1)) / t
 }
 
-// What a task adds to the demand of one below it: nothing unless it is above.
-fn interference(above: bool, t: Task, w: u64) -> u64
+// ⌈(w + J) / T⌉ × C
+fn interference(t: Task, w: u64) -> u64
     requires { ⌜ InRanges t ⌝ }
     requires { ⌜ w ≤ maxPeriod ⌝ }
-    ensures { λ r. ⌜ r ≡ pick above (interference t w) 0 ⌝ }
+    ensures { λ r. ⌜ r ≡ interference t w ⌝ }
 {
-    if above {
-        return ceil_div(w + t.jitter, t.period) * t.execution;
-    }
-    0
+    ceil_div(w + t.jitter, t.period) * t.execution
 }
 
-// What a task adds to demand(1): it is released once.
-fn once(above: bool, t: Task) -> u64
-    requires { ⌜ InRanges t ⌝ }
-    ensures { λ r. ⌜ r ≡ pick above (interference t 1) 0 ⌝ }
-{
-    if above {
-        return t.execution;
-    }
-    0
-}
-
-// demand(1), which no window lies below, with no division.
-fn first_demand(rows: &[u64], task: TaskIndex, above: [bool; MAX_TASKS]) -> u64
-    requires { ⌜ Rows (tasksIn (now rows)) ⌝ }
-    requires { ⌜ task .0 < length (tasksIn (now rows)) ⌝ }
-    ensures { λ r. ⌜ r ≡ demand (tasksIn (now (rows .entry))) (task .0) (marked above) 1 ⌝ }
-{
-    let n = rows.len() / ROW;
-    let own = row(rows, task.0);
-    let mut start = own.blocking + own.execution;
-    let mut j = 0;
-    while j < n {
-        start += once(above[j], row(rows, j));
-        j += 1;
-    }
-    start
-}
-
-// demand(w) of a task with the marked tasks above it.
-fn demand(rows: &[u64], task: TaskIndex, above: [bool; MAX_TASKS], w: u64) -> u64
-    requires { ⌜ Rows (tasksIn (now rows)) ⌝ }
-    requires { ⌜ task .0 < length (tasksIn (now rows)) ⌝ }
+// demand(w) of a base and of the tasks that are kept.
+fn demand(base: u64, rows: &[u64], kept: &[u8], w: u64) -> u64
+    requires { ⌜ IsLoad base (tasksIn (now rows)) (now kept) ⌝ }
     requires { ⌜ w ≤ maxPeriod ⌝ }
-    ensures { λ r. ⌜ r ≡ demand (tasksIn (now (rows .entry))) (task .0) (marked above) w ⌝ }
+    ensures { λ r. ⌜ r ≡ total base (tasksIn (now (rows .entry))) (now (kept .entry)) w ⌝ }
 {
-    let n = rows.len() / ROW;
-    let own = row(rows, task.0);
-    let mut sum = own.blocking + own.execution;
-    let mut j = 0;
-    while j < n {
-        sum += interference(above[j], row(rows, j), w);
-        j += 1;
+    let n = kept.len();
+    let mut sum = base;
+    let mut k = 0;
+    while k < n {
+        sum += interference(row(rows, kept[k] as usize), w);
+        k += 1;
     }
     sum
 }
 
 // What a task adds to a bound on every window from w on: its rate, and that over its jitter, where what it brings at w does
-// not last until `reach`; else what it brings at w. Nothing unless it is above.
-fn part_at(above: bool, t: Task, w: u64, reach: u64) -> Part
+// not last until `reach`; else what it brings at w.
+fn part_at(t: Task, w: u64, reach: u64) -> Part
     requires { ⌜ InRanges t ⌝ }
     requires { ⌜ w ≤ maxPeriod ⌝ }
-    ensures { λ r. ⌜ r ≡ partOf above t w reach ⌝ }
+    ensures { λ r. ⌜ r ≡ partOf t w reach ⌝ }
 {
-    if above {
-        let releases = ceil_div(w + t.jitter, t.period);
-        if releases * t.period - t.jitter < reach {
-            let rate = t.execution * SCALE / t.period;
-            return Part {
-                fixed: rate * t.jitter,
-                rate,
-            };
-        }
+    let releases = ceil_div(w + t.jitter, t.period);
+    if releases * t.period - t.jitter < reach {
+        let rate = t.execution * SCALE / t.period;
         return Part {
-            fixed: releases * t.execution * SCALE,
-            rate: 0,
+            fixed: rate * t.jitter,
+            rate,
         };
     }
-    Part { fixed: 0, rate: 0 }
+    Part {
+        fixed: releases * t.execution * SCALE,
+        rate: 0,
+    }
 }
 
 // The least v with fixed ≤ v × (SCALE − rate); where there is none, a number beyond every limit.
@@ -185,25 +157,23 @@ fn bound(fixed: u64, rate: u64) -> u64
 }
 
 // From bounds w and reach on every window, one that is no lower than reach.
-fn leap(rows: &[u64], task: TaskIndex, above: [bool; MAX_TASKS], w: u64, reach: u64) -> u64
-    requires { ⌜ Rows (tasksIn (now rows)) ⌝ }
-    requires { ⌜ task .0 < length (tasksIn (now rows)) ⌝ }
+fn leap(base: u64, rows: &[u64], kept: &[u8], w: u64, reach: u64) -> u64
+    requires { ⌜ IsLoad base (tasksIn (now rows)) (now kept) ⌝ }
     requires { ⌜ w ≤ maxPeriod ⌝ }
-    requires { ⌜ Bounds (demand (tasksIn (now rows)) (task .0) (marked above)) w ⌝ }
-    requires { ⌜ Bounds (demand (tasksIn (now rows)) (task .0) (marked above)) reach ⌝ }
+    requires { ⌜ Bounds (total base (tasksIn (now rows)) (now kept)) w ⌝ }
+    requires { ⌜ Bounds (total base (tasksIn (now rows)) (now kept)) reach ⌝ }
     ensures { λ r. ⌜ reach ≤ r ⌝ }
-    ensures bounds { λ r. ⌜ Bounds (demand (tasksIn (now (rows .entry))) (task .0) (marked above)) r ⌝ }
+    ensures bounds { λ r. ⌜ Bounds (total base (tasksIn (now (rows .entry))) (now (kept .entry))) r ⌝ }
 {
-    let n = rows.len() / ROW;
-    let own = row(rows, task.0);
-    let mut fixed = (own.blocking + own.execution) * SCALE;
+    let n = kept.len();
+    let mut fixed = base * SCALE;
     let mut rate = 0;
-    let mut j = 0;
-    while j < n {
-        let p = part_at(above[j], row(rows, j), w, reach);
+    let mut k = 0;
+    while k < n {
+        let p = part_at(row(rows, kept[k] as usize), w, reach);
         fixed += p.fixed;
         rate += p.rate;
-        j += 1;
+        k += 1;
     }
     let far = bound(fixed, rate);
     if far < reach {
@@ -213,38 +183,28 @@ fn leap(rows: &[u64], task: TaskIndex, above: [bool; MAX_TASKS], w: u64, reach: 
 }
 
 // Where the climb goes on from w, whose demand is `needed`: there, or by three leaps from there.
-fn next(
-    rows: &[u64],
-    task: TaskIndex,
-    above: [bool; MAX_TASKS],
-    w: u64,
-    needed: u64,
-    leaps: bool,
-) -> u64
-    requires { ⌜ Rows (tasksIn (now rows)) ⌝ }
-    requires { ⌜ task .0 < length (tasksIn (now rows)) ⌝ }
+fn next(base: u64, rows: &[u64], kept: &[u8], w: u64, needed: u64, leaps: bool) -> u64
+    requires { ⌜ IsLoad base (tasksIn (now rows)) (now kept) ⌝ }
     requires { ⌜ w ≤ maxPeriod ⌝ }
-    requires { ⌜ Bounds (demand (tasksIn (now rows)) (task .0) (marked above)) w ⌝ }
-    requires { ⌜ Bounds (demand (tasksIn (now rows)) (task .0) (marked above)) needed ⌝ }
+    requires { ⌜ Bounds (total base (tasksIn (now rows)) (now kept)) w ⌝ }
+    requires { ⌜ Bounds (total base (tasksIn (now rows)) (now kept)) needed ⌝ }
     ensures { λ r. ⌜ needed ≤ r ⌝ }
-    ensures bounds { λ r. ⌜ Bounds (demand (tasksIn (now (rows .entry))) (task .0) (marked above)) r ⌝ }
+    ensures bounds { λ r. ⌜ Bounds (total base (tasksIn (now (rows .entry))) (now (kept .entry))) r ⌝ }
 {
     if leaps {
-        let near = leap(rows, task, above, w, needed);
-        let far = leap(rows, task, above, w, near);
-        return leap(rows, task, above, w, far);
+        let near = leap(base, rows, kept, w, needed);
+        let far = leap(base, rows, kept, w, near);
+        return leap(base, rows, kept, w, far);
     }
     needed
 }
 
-// The window, climbed to from a start that no solution lies below. Every sixth round leaps.
-fn climb(rows: &[u64], task: TaskIndex, above: [bool; MAX_TASKS], start: u64, room: u64) -> Window
-    requires { ⌜ Rows (tasksIn (now rows)) ⌝ }
-    requires { ⌜ task .0 < length (tasksIn (now rows)) ⌝ }
+// The window, climbed to from the demand at 1. Every sixth round leaps.
+fn climb(base: u64, rows: &[u64], kept: &[u8], start: u64, room: u64) -> Window
+    requires { ⌜ IsLoad base (tasksIn (now rows)) (now kept) ⌝ }
     requires { ⌜ room ≤ maxPeriod ⌝ }
-    requires { ⌜ 1 ≤ start ⌝ }
-    requires { ⌜ Bounds (demand (tasksIn (now rows)) (task .0) (marked above)) start ⌝ }
-    ensures { λ r. ⌜ r ≡ windowOf (demand (tasksIn (now (rows .entry))) (task .0) (marked above)) room ⌝ }
+    requires { ⌜ start ≡ total base (tasksIn (now rows)) (now kept) 1 ⌝ }
+    ensures { λ r. ⌜ r ≡ windowOf (total base (tasksIn (now (rows .entry))) (now (kept .entry))) room ⌝ }
 {
     let mut w = start;
     let mut round: u64 = 0;
@@ -252,14 +212,75 @@ fn climb(rows: &[u64], task: TaskIndex, above: [bool; MAX_TASKS], start: u64, ro
         if room < w {
             break Window::Beyond;
         }
-        let needed = demand(rows, task, above, w);
+        let needed = demand(base, rows, kept, w);
         if needed <= w {
             break Window::At(w);
         }
-        w = next(rows, task, above, w, needed, round == 5);
+        w = next(base, rows, kept, w, needed, round == 5);
         round = (round + 1) % 6;
     };
     window
+}
+
+// What task j adds to a load, for windows up to room: nothing unless it is above; to the base where it is released once.
+fn share(above: bool, rows: &[u64], j: usize, room: u64) -> Load
+    requires { ⌜ Rows (tasksIn (now rows)) ⌝ }
+    requires { ⌜ j < length (tasksIn (now rows)) ⌝ }
+    requires { ⌜ room ≤ maxPeriod ⌝ }
+    ensures { λ r. ⌜ r ≡ shareOf above (taskAt (tasksIn (now (rows .entry))) j) room ⌝ }
+{
+    if above {
+        let t = row(rows, j);
+        if room + t.jitter <= t.period {
+            return Load {
+                base: t.execution,
+                count: 0,
+                start: t.execution,
+            };
+        }
+        return Load {
+            base: 0,
+            count: 1,
+            start: t.execution,
+        };
+    }
+    Load {
+        base: 0,
+        count: 0,
+        start: 0,
+    }
+}
+
+// Gathers what a climb up to room goes over: B + C of the task with what is released once, and the others above.
+fn gather(
+    rows: &[u64],
+    task: TaskIndex,
+    above: [bool; MAX_TASKS],
+    room: u64,
+    kept: &mut [u8],
+) -> Load
+    requires { ⌜ Rows (tasksIn (now rows)) ⌝ }
+    requires { ⌜ task .0 < length (tasksIn (now rows)) ⌝ }
+    requires { ⌜ room ≤ maxPeriod ⌝ }
+    requires { ⌜ maxTasks ≤ length (now kept) ⌝ }
+    ensures { λ r. ⌜ r .count ≤ length (now (kept .exit)) ⌝ }
+    ensures stands { λ r. ⌜ StandsFor (tasksIn (now (rows .entry))) (task .0) (marked above) room (r .base) (take (r .count) (now (kept .exit))) (r .start) ⌝ }
+{
+    let n = rows.len() / ROW;
+    let own = row(rows, task.0);
+    let mut base = own.blocking + own.execution;
+    let mut start = base;
+    let mut count = 0;
+    let mut j = 0;
+    while j < n {
+        kept[count] = j as u8;
+        let s = share(above[j], rows, j, room);
+        base += s.base;
+        count += s.count;
+        start += s.start;
+        j += 1;
+    }
+    Load { base, count, start }
 }
 
 // The response of a task with the marked tasks above it, searched for up to a limit.
@@ -279,8 +300,11 @@ pub fn response_time(
     if limit < own.jitter {
         return Response::Late;
     }
-    let start = first_demand(rows, task, above);
-    let Window::At(w) = climb(rows, task, above, start, limit - own.jitter) else {
+    let room = limit - own.jitter;
+    let mut kept = [0u8; MAX_TASKS];
+    let load = gather(rows, task, above, room, &mut kept);
+    let n = load.count;
+    let Window::At(w) = climb(load.base, rows, &kept[..n], load.start, room) else {
         return Response::Late;
     };
     Response::Within(own.jitter + w)

@@ -84,20 +84,20 @@ module _ (p : ℕ → Bool) where
         go j true f = rw (sym (ap p (eqb-true k j f)), t) (and-false (first k j))
         go j false f = refl
 
--- ---- the first n marks of a set, as a list
+-- ---- the first n values of a function, as a list
 
-abbrev pub table : ℕ → (ℕ → Bool) → List Bool
-table zero A = []
-table (suc n) A = A 0 ∷ table n (λ j. A (suc j))
+abbrev pub table : {A : Type 0} → ℕ → (ℕ → A) → List A
+table zero f = []
+table (suc n) f = f 0 ∷ table n (λ j. f (suc j))
 
-pub length-table : (n : ℕ) (A : ℕ → Bool) → length (table n A) ≡ n
-length-table zero A = refl
-length-table (suc n) A = ap suc (length-table n (λ j. A (suc j)))
+pub length-table : {A : Type 0} (n : ℕ) (f : ℕ → A) → length (table n f) ≡ n
+length-table zero f = refl
+length-table (suc n) f = ap suc (length-table n (λ j. f (suc j)))
 
-pub marked-table : (n : ℕ) (A : ℕ → Bool) (k : ℕ) → k < n → marked (table n A) k ≡ A k
-marked-table zero A k h = absurd (not-suc-le-zero h)
-marked-table (suc n) A zero h = refl
-marked-table (suc n) A (suc k) h = marked-table n (λ j. A (suc j)) k (le-of-suc-le-suc h)
+pub getD-table : {A : Type 0} (n : ℕ) (f : ℕ → A) (d : A) (k : ℕ) → k < n → getD (table n f) k d ≡ f k
+getD-table zero f d k h = absurd (not-suc-le-zero h)
+getD-table (suc n) f d zero h = refl
+getD-table (suc n) f d (suc k) h = getD-table n (λ j. f (suc j)) d k (le-of-suc-le-suc h)
 
 -- an array of marks that has those of A, and none from m on
 pub table-is : (n m : ℕ) (A : ℕ → Bool) (marks : List Bool) → length marks ≡ n → m ≤ n → marked marks ≡ A
@@ -106,7 +106,7 @@ pub table-is : (n m : ℕ) (A : ℕ → Bool) (marks : List Bool) → length mar
 table-is n m A marks long few e out =
     ext-getD false marks (pad n false (table m A)) (long ∙ sym whole)
     (λ k h. ⊎-elim
-    (λ l. at k ∙ sym (marked-table m A k l) ∙ sym (pad-used n false (table m A) k (omega (arith, l, length-table m A))))
+    (λ l. at k ∙ sym (getD-table m A false k l) ∙ sym (pad-used n false (table m A) k (omega (arith, l, length-table m A))))
     (λ g. at k ∙ out k g ∙ sym (pad-unused n false (table m A) k (omega (arith, g, length-table m A)) (omega (arith, h, long))))
     (lt-or-le k m))
   where
@@ -119,6 +119,6 @@ table-is n m A marks long few e out =
 pub marked-padded : (n m : ℕ) (A : ℕ → Bool) → ((k : ℕ) → m ≤ k → A k ≡ false) → marked (pad n false (table m A)) ≡ A
 marked-padded n m A out =
     fun-ext (λ k. ⊎-elim
-    (λ l. pad-used n false (table m A) k (omega (arith, l, length-table m A)) ∙ marked-table m A k l)
+    (λ l. pad-used n false (table m A) k (omega (arith, l, length-table m A)) ∙ getD-table m A false k l)
     (λ g. pad-rest n false (table m A) k (omega (arith, g, length-table m A)) ∙ sym (out k g))
     (lt-or-le k m))

@@ -11,7 +11,7 @@ ghost use Rattle.taskset.specs.Calls.{after, run, noLists, lists, heard};
 ghost use Rattle.assignment.specs.Audsley.{feasible};
 ghost use Rattle.assignment.specs.Preemptive.{problem};
 ghost use Rattle.assignment.specs.Levels.{Searched};
-ghost use Rattle.assignment.specs.Settling.{Known, Held};
+ghost use Rattle.assignment.specs.Settling.{Known, Meets, Held};
 ghost use Rattle.verdict.specs.Core.{tried, coreOf};
 ghost use Rattle.verdict.specs.Verdict.{solving};
 ghost use Rattle.verdict.specs.Demand3.{Demand3, Explains};
@@ -45,10 +45,12 @@ pub struct Solved {
     pub set: TaskSet,
 }
 
-// A core being cut down: the rules still in it, and where the search with them in play got stuck.
+// A core being cut down: the rules still in it, where the search with them in play got stuck, and the last search that found
+// an order.
 pub struct Cut {
     pub marks: [bool; MAX_RULES],
     pub stuck: Standing,
+    pub other: Standing,
 }
 
 // Marks for the first m rules.
@@ -71,30 +73,47 @@ fn try_rule(set: TaskSet, known: [bool; MAX_TASKS], cut: Cut, k: usize) -> Cut
     requires { ⌜ k < maxRules ⌝ }
     requires { ⌜ Held (lists set) (marked (cut .marks)) (cut .stuck) ⌝ }
     requires { ⌜ Known (rows set) (marked (cut .stuck .left)) (marked known) ⌝ }
+    requires { ⌜ Meets (rows set) (cut .other) ⌝ }
     ensures { λ r. ⌜ marked (r .marks) ≡ tried (feasible (problem (lists set))) (marked (cut .marks)) k ⌝ }
     ensures held { λ r. ⌜ Held (lists set) (marked (r .marks)) (r .stuck) ⌝ }
     ensures known { λ r. ⌜ Known (rows set) (marked (r .stuck .left)) (marked known) ⌝ }
+    ensures meets { λ r. ⌜ Meets (rows set) (r .other) ⌝ }
 {
     let marks = cut.marks;
     let mut less = marks;
     less[k] = false;
-    let stuck = settle(set, less, known, cut.stuck);
-    if stuck.free == 0 {
-        return cut;
+    let tried = settle(set, less, known, cut.other, cut.stuck);
+    let mut next = cut;
+    if tried.free == 0 {
+        next.other = tried;
+        return next;
     }
-    Cut { marks: less, stuck }
+    next.marks = less;
+    next.stuck = tried;
+    next
 }
 
-// The rules that stay when each is tried, from where the search with every rule in play got stuck.
-fn cut_down(set: TaskSet, known: [bool; MAX_TASKS], stuck: Standing) -> [bool; MAX_RULES]
+// The rules that stay when each is tried, from where the search with every rule in play got stuck; `other` is one that went on
+// without rules.
+fn cut_down(
+    set: TaskSet,
+    known: [bool; MAX_TASKS],
+    other: Standing,
+    stuck: Standing,
+) -> [bool; MAX_RULES]
     requires { ⌜ isMade set ≡ true ⌝ }
     requires { ⌜ Held (lists set) (first (set .nrules)) stuck ⌝ }
     requires { ⌜ Known (rows set) (marked (stuck .left)) (marked known) ⌝ }
+    requires { ⌜ Meets (rows set) other ⌝ }
     ensures { λ r. ⌜ marked r ≡ coreOf (feasible (problem (lists set))) (set .nrules) ⌝ }
 {
     let m = set.nrules;
     let marks = first(m);
-    let mut cut = Cut { marks, stuck };
+    let mut cut = Cut {
+        marks,
+        stuck,
+        other,
+    };
     let mut k = 0;
     while k < m {
         cut = try_rule(set, known, cut, k);
@@ -113,15 +132,18 @@ fn core(set: TaskSet, found: Assignment) -> [bool; MAX_RULES]
     if set.nrules == 0 {
         return no_rules;
     }
+    let levels = found.levels;
+    let order = levels.order;
     let left = found.left;
     let stuck = Standing {
+        order,
         free: found.free,
         left,
     };
     let known = passing(set, left);
-    let bare = settle(set, no_rules, known, stuck);
+    let bare = settle(set, no_rules, known, stuck, stuck);
     if bare.free == 0 {
-        return cut_down(set, known, stuck);
+        return cut_down(set, known, bare, stuck);
     }
     no_rules
 }

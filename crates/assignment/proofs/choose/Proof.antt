@@ -1,12 +1,12 @@
 -- `assignment::choose` meets its contract: no task from i on may take the level. Assumes nothing.
-use mathlib.Core.Path.{_≡_, refl, sym, ap, _∙_}
-use Prim.Native.Nat.{_/_, _≤_}
+use mathlib.Core.Path.{_≡_, sym, ap, _∙_}
+use Prim.Native.Nat.{ℕ, _≤_}
 use native.Mathlib.Omega.{arith}
 use borrow.Author.Needs.{needs}
 use lib.ListN.{length}
 use Rattle.sets.specs.Bounded.{greatest}
 use Rattle.sets.specs.Marks.{marked}
-use Rattle.response.specs.Words.{tasksIn, tasks-count, tasks-length}
+use Rattle.response.specs.Words.{tasksIn, tasks-length}
 use Rattle.assignment.specs.Levels.{offer}
 use Rattle.assignment.specs.Steps.{within, chosen-takes, chosen-next, chosen-none}
 use Rattle.assignment.proofs.choose.Statement.{statement}
@@ -22,7 +22,10 @@ abbrev μ-loop : tie.MeasureT-loop
 μ-loop rows left ready i₀ i = i
 
 loop-holds : tie.Need-loop-holds Inv-loop μ-loop
-loop-holds c = rw (sym (tasks-length (c .before .args .rows .now))) (omega arith, refl)
+loop-holds c =
+    let rows = c .before .args .rows .now in
+    let w = within (length (tasksIn rows)) (offer (tasksIn rows) (marked (c .before .args .t2)) (marked (c .before .args .left))) in
+    (omega (arith, tasks-length rows), ap (λ (m : ℕ). greatest m w) (sym (tasks-length rows)))
 
 sub-i : tie.Need-sub-i Inv-loop μ-loop
 sub-i c = search needs

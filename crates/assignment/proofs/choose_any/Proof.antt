@@ -5,15 +5,15 @@ use borrow.Author.Needs.{needs}
 use lib.ListN.{length}
 use Rattle.sets.specs.Marks.{marked}
 use Rattle.response.specs.Words.{tasksIn, tasks-length}
-use Rattle.assignment.specs.Settling.{known-any, chosen-any}
+use Rattle.assignment.specs.Settling.{known-any}
 use Rattle.assignment.proofs.choose_any.Statement.{statement}
 use Rattle.assignment.proofs.choose_any.Tie as tie
 
 abbrev Inv-loop : tie.InvT-loop
-Inv-loop rows left ready known j₀ j = j ≤ length (tasksIn rows)
+Inv-loop rows other left ready known j₀ j = j ≤ length (tasksIn rows)
 
 abbrev μ-loop : tie.MeasureT-loop
-μ-loop rows left ready known j₀ j = j
+μ-loop rows other left ready known j₀ j = j
 
 loop-holds : tie.Need-loop-holds Inv-loop μ-loop
 loop-holds c = omega (arith, tasks-length (c .before .args .rows .now))
@@ -32,7 +32,7 @@ returns c =
     let s = c .before .before .before .before in
     let at = c .before .before .loop in
     let here : at .j - 1 < length (tasksIn (s .args .rows .now)) = omega (arith, at .inv) in
-    (here, known-any _ (marked (s .args .t2)) (marked (s .args .left)) (marked (s .args .t3)) (s .pre .1) (at .j - 1) here (c .if1 .taken))
+    (here, known-any _ (marked (s .args .t2)) (marked (s .args .left)) (marked (s .args .t3)) (s .pre .1 .0) (at .j - 1) here (c .if1 .taken))
 
 loop-less : tie.Need-loop-less Inv-loop μ-loop
 loop-less c = omega arith
@@ -40,11 +40,11 @@ loop-less c = omega arith
 loop-again : tie.Need-loop-again Inv-loop μ-loop
 loop-again c = omega (arith, c .before .before .loop .inv)
 
-choose-requires : tie.Need-choose-requires Inv-loop μ-loop
-choose-requires c κs = c .before .before .before .pre .0
+choose-last-requires : tie.Need-choose-last-requires Inv-loop μ-loop
+choose-last-requires c κs = let s = c .before .before .before in (s .pre .0, s .pre .1 .1)
 
 returns-2 : tie.Need-returns-2 Inv-loop μ-loop
-returns-2 c = chosen-any _ _ _ _ (c .choose .ensures)
+returns-2 c = c .choose-last .ensures
 
 pub choose-any-spec : {M : Type 1} → statement M
 choose-any-spec =
@@ -59,5 +59,5 @@ choose-any-spec =
     returns
     loop-less
     loop-again
-    choose-requires
+    choose-last-requires
     returns-2)

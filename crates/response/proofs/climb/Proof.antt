@@ -2,33 +2,35 @@
 use mathlib.Core.Path.{sym, subst}
 use Prim.Native.Nat.{_+_, _-_, _≤_}
 use native.Mathlib.Omega.{arith}
-use Rattle.sets.specs.Marks.{marked}
 use Rattle.response.specs.declared.Window.the-variants.{At, Beyond}
-use Rattle.response.specs.Equation.{demand}
 use Rattle.response.specs.Words.{tasksIn}
-use Rattle.response.specs.Demand.{demand-mono}
 use Rattle.response.specs.Agreement.{Bounds, climb, window-is}
+use Rattle.response.specs.Demand.{total, total-mono}
+use Rattle.response.specs.Leap.{start-bounds}
 use Rattle.response.proofs.climb.Statement.{statement}
 use Rattle.response.proofs.climb.Tie as tie
 
 abbrev Inv-loop : tie.InvT-loop
-Inv-loop rows task above start room w₀ round₀ w round =
-    (1 ≤ w) × (round ≤ 5) × Bounds (demand (tasksIn rows) (task .0) (marked above)) w
+Inv-loop base rows kept start room w₀ round₀ w round =
+    (1 ≤ w) × (round ≤ 5) × Bounds (total base (tasksIn rows) kept) w
 
 abbrev μ-loop : tie.MeasureT-loop
-μ-loop rows task above start room w₀ round₀ w round = room + 1 - w
+μ-loop base rows kept start room w₀ round₀ w round = room + 1 - w
 
 loop-holds : tie.Need-loop-holds Inv-loop μ-loop
-loop-holds c = (c .before .pre .1 .1 .1 .0, omega arith, c .before .pre .1 .1 .1 .1)
+loop-holds c =
+    let p = c .before .before .pre in
+    let b = start-bounds _ _ _ _ (p .0 .low) (p .1 .1) in
+    (b .0, omega arith, b .1)
 
 demand-requires : tie.Need-demand-requires Inv-loop μ-loop
-demand-requires c κs = let p = c .before .before .before .pre in (p .0, (p .1 .0, omega arith))
+demand-requires c κs = let p = c .before .before .before .before .pre in (p .0, omega arith)
 
 next-requires : tie.Need-next-requires Inv-loop μ-loop
 next-requires c κs =
-    let p = c .before .before .before .before .before .pre in
+    let p = c .before .before .before .before .before .before .pre in
     let inv = c .before .before .before .loop .inv in
-    (p .0, (p .1 .0, (omega arith, (inv .2, subst (Bounds _) (sym (c .before .demand .ensures)) (climb _ (demand-mono _ _ _) _ (inv .2))))))
+    (p .0, (omega arith, (inv .2, subst (Bounds _) (sym (c .before .demand .ensures)) (climb _ (total-mono _ _ _) _ (inv .2)))))
 
 add-round : tie.Need-add-round Inv-loop μ-loop
 add-round c = omega (arith, c .before .before .before .before .loop .inv .1)

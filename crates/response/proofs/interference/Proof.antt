@@ -2,7 +2,7 @@
 use native.Mathlib.Omega.{arith}
 use borrow.Author.Needs.{needs}
 use Rattle.response.specs.Equation.{interference}
-use Rattle.response.specs.Demand.{interference-le}
+use Rattle.response.specs.Demand.{ceil-mul-le}
 use Rattle.response.proofs.interference.Statement.{statement}
 use Rattle.response.proofs.interference.Tie as tie
 
@@ -13,18 +13,20 @@ ceil-div-requires : tie.Need-ceil-div-requires
 ceil-div-requires c κs = search needs
 
 mul-result : tie.Need-mul-result
-unfolding interference
 mul-result c =
-    let a = c .before .before .before .before in
-    rw (c .before .ceil-div .ensures) (omega (arith, interference-le (a .args .t) (a .args .w) (a .pre .0)))
+    let s = c .before .before .before in
+    let h = ceil-mul-le _ _ (s .args .t .execution) _ (c .before .ceil-div .ensures) (s .pre .0 .execution .1) in
+    omega arith
 
 returns : tie.Need-returns
 unfolding interference
-returns c = rw (c .before .before .before .if1 .taken, c .before .ceil-div .ensures)
-
-returns-2 : tie.Need-returns-2
-returns-2 c = search needs
+returns c = rw (c .before .ceil-div .ensures)
 
 pub interference-spec : {M : Type 1} → statement M
 interference-spec =
-    tie.close (tie.spec add-ceil-div ceil-div-requires mul-result returns returns-2)
+    tie.close
+    (tie.spec
+    add-ceil-div
+    ceil-div-requires
+    mul-result
+    returns)

@@ -1,113 +1,84 @@
--- `response::leap` meets its contract: after j tasks the sums are their parts. Assumes nothing.
-use mathlib.Core.Path.{_≡_, sym, ap, subst, _∙_}
+-- `response::leap` meets its contract: after k tasks the sums are their parts. Assumes nothing.
+use mathlib.Core.Path.{sym, subst}
 use Prim.Native.Nat.{_+_, _-_, _≤_}
-use native.Mathlib.Nat.{le-refl, zero-add}
+use native.Mathlib.Nat.{le-refl}
 use native.Mathlib.Omega.{arith}
-use Rattle.sets.specs.Sum.{sum, sum-start, sum-end}
-use Rattle.sets.specs.Marks.{marked}
-use Rattle.taskset.specs.declared.Task.{Task}
-use Rattle.taskset.specs.Rows.{InRanges}
-use Rattle.response.specs.Equation.{taskAt}
-use Rattle.response.specs.Words.{tasksIn, tasks-count, read-row}
+use denote.Ref.{now}
+use Rattle.response.specs.Words.{tasksIn, read-row}
 use Rattle.response.specs.Agreement.{Bounds}
-use Rattle.response.specs.Leap.{fixedPart, ratePart, fixed-sum, rate-sum, parts-turn, leap-bounds}
+use Rattle.response.specs.Leap.{Parts, parts-none, parts-more, parts-fit, leap-bounds}
 use Rattle.response.proofs.leap.Statement.{statement}
 use Rattle.response.proofs.leap.Tie as tie
 
 abbrev Inv-loop : tie.InvT-loop
-Inv-loop rows w reach above n fixed₀ rate₀ j₀ fixed rate j =
-    (j ≤ n)
-    × (fixed ≡ fixed₀ + sum j (marked above) (λ k. fixedPart w reach (taskAt (tasksIn rows) k)))
-    × (rate ≡ 0 + sum j (marked above) (λ k. ratePart w reach (taskAt (tasksIn rows) k)))
+Inv-loop base rows kept w reach n fixed₀ rate₀ k₀ fixed rate k = (k ≤ n) × Parts (tasksIn rows) kept w reach base k fixed rate
 
 abbrev μ-loop : tie.MeasureT-loop
-μ-loop rows w reach above n fixed₀ rate₀ j₀ fixed rate j = n - j
-
--- the task itself
-own : (c : tie.After-row Inv-loop μ-loop) → InRanges (c .row .result)
-own c = let s = c .before .before in read-row (s .pre .0) (s .pre .1 .0) (c .row .ensures)
-
-row-requires : tie.Need-row-requires Inv-loop μ-loop
-row-requires c κs = c .before .pre .1 .0
-
-add-fixed : tie.Need-add-fixed Inv-loop μ-loop
-add-fixed c = let r = own (c .before) in omega arith
+μ-loop base rows kept w reach n fixed₀ rate₀ k₀ fixed rate k = n - k
 
 mul-fixed : tie.Need-mul-fixed Inv-loop μ-loop
-mul-fixed c = let r = own (c .before) in omega arith
+mul-fixed c = omega (arith, c .before .before .pre .0 .high)
 
 loop-holds : tie.Need-loop-holds Inv-loop μ-loop
-loop-holds c = (omega arith, sum-start _ _ _, sum-start _ _ _)
+loop-holds c = (omega arith, parts-none _ _ _ _ _)
 
-array-read-part-at : tie.Need-array-read-part-at Inv-loop μ-loop
-array-read-part-at c = let h = tasks-count _ (c .before .before .before .before .before .pre .0) in omega arith
+shared-slice-read-row : tie.Need-shared-slice-read-row Inv-loop μ-loop
+shared-slice-read-row c = omega arith
 
-row-requires-2 : tie.Need-row-requires-2 Inv-loop μ-loop
-row-requires-2 c κs = let h = tasks-count _ (c .before .before .before .before .before .pre .0) in omega arith
+cast-row : tie.Need-cast-row Inv-loop μ-loop
+cast-row c =
+    let load = c .before .before .before .before .before .pre .0 in
+    omega (arith, load .inside (c .before .before .loop .k) (omega arith), load .rows .few)
+
+row-requires : tie.Need-row-requires Inv-loop μ-loop
+row-requires c κs = c .before .before .before .before .before .pre .0 .inside _ (omega arith)
 
 part-at-requires : tie.Need-part-at-requires Inv-loop μ-loop
 part-at-requires c κs =
-    let s = c .before .before .before .before .before .before in
-    let h = tasks-count _ (s .pre .0) in
-    (read-row (s .pre .0) (omega arith) (c .row2 .ensures), s .pre .1 .1 .0)
+    let p = c .before .before .before .before .before .before .pre in
+    (read-row (p .0 .rows) (p .0 .inside _ (omega arith)) (c .row .ensures), p .1 .0)
 
-add-fixed-2 : tie.Need-add-fixed-2 Inv-loop μ-loop
-add-fixed-2 c =
-    let s = c .before .before .before .before .before .before .before .before in
+-- the sums with one task more
+more : (c : tie.After-part-at Inv-loop μ-loop) → let s = c .before .before .before .before .before .before .before .args in
     let at = c .before .before .before .before .loop in
-    let r = own (c .before .before .before .before .before .before) in
-    let h = tasks-count _ (s .pre .0) in
-    let next = parts-turn _ (s .pre .0) _ _ _ _ _ _ (at .j) _ _ (at .inv .1) (at .inv .2) (c .before .before .row2 .ensures) (c .before .part-at .ensures) in
-    let bound = fixed-sum _ (s .pre .0) (marked (s .args .t3)) (s .args .w) (s .args .reach) (at .j + 1) (s .pre .1 .1 .0) (omega arith) in
+    Parts (tasksIn (now (s .rows))) (now (s .kept)) (s .w) (s .reach) (s .base) (at .k + 1)
+    (at .fixed + c .part-at .result .fixed) (at .rate + c .part-at .result .rate)
+more c = parts-more _ _ _ _ _ _ _ _ _ _ (c .before .before .before .before .loop .inv .1) (c .before .row .ensures) (c .part-at .ensures)
+
+add-fixed : tie.Need-add-fixed Inv-loop μ-loop
+add-fixed c =
+    let p = c .before .before .before .before .before .before .before .before .pre in
+    let fit = parts-fit _ _ _ _ _ _ _ _ (more (c .before)) (p .0) (p .1 .0) (omega arith) in
     omega arith
 
 add-rate : tie.Need-add-rate Inv-loop μ-loop
 add-rate c =
-    let s = c .before .before .before .before .before .before .before .before .before in
-    let at = c .before .before .before .before .before .loop in
-    let h = tasks-count _ (s .pre .0) in
-    let next = parts-turn _ (s .pre .0) _ _ _ _ _ _ (at .j) _ _ (at .inv .1) (at .inv .2) (c .before .before .before .row2 .ensures) (c .before .before .part-at .ensures) in
-    let bound = rate-sum _ (s .pre .0) (marked (s .args .t3)) (s .args .w) (s .args .reach) (at .j + 1) (omega arith) in
+    let p = c .before .before .before .before .before .before .before .before .before .pre in
+    let fit = parts-fit _ _ _ _ _ _ _ _ (more (c .before .before)) (p .0) (p .1 .0) (omega arith) in
     omega arith
 
-add-j : tie.Need-add-j Inv-loop μ-loop
-add-j c = let h = tasks-count _ (c .before .before .before .before .before .before .before .before .before .pre .0) in omega arith
+add-k : tie.Need-add-k Inv-loop μ-loop
+add-k c = omega (arith, c .before .before .before .before .before .before .before .before .before .pre .0 .few)
 
 loop-less : tie.Need-loop-less Inv-loop μ-loop
 loop-less c = omega arith
 
 loop-again : tie.Need-loop-again Inv-loop μ-loop
-loop-again c =
-    let s = c .before .before .before .before .before .before .before .before .before in
-    let at = c .before .before .before .before .before .loop in
-    let next = parts-turn _ (s .pre .0) _ _ _ _ _ _ (at .j) _ _ (at .inv .1) (at .inv .2) (c .before .before .before .row2 .ensures) (c .before .before .part-at .ensures) in
-    (omega arith, next .0, next .1)
+loop-again c = (omega arith, more (c .before .before))
 
 bound-requires : tie.Need-bound-requires Inv-loop μ-loop
 bound-requires c κs =
-    let s = c .before .before .before .before .before in
-    let at = c .before .loop in
-    let r = own (c .before .before .before) in
-    let h = tasks-count _ (s .pre .0) in
-    let bound = fixed-sum _ (s .pre .0) (marked (s .args .t3)) (s .args .w) (s .args .reach) (at .j) (s .pre .1 .1 .0) (omega arith) in
-    omega arith
+    let p = c .before .before .before .before .pre in
+    parts-fit _ _ _ _ _ _ _ _ (c .before .loop .inv .1) (p .0) (p .1 .0) (omega arith) .0
 
 returns : tie.Need-returns Inv-loop μ-loop
-returns c = (le-refl _, c .before .before .before .before .before .before .before .pre .1 .1 .1 .1)
+returns c = (le-refl _, c .before .before .before .before .before .before .pre .1 .1 .1)
 
 returns-2 : tie.Need-returns-2 Inv-loop μ-loop
 returns-2 c =
-    let s = c .before .before .before .before .before .before .before in
-    let at = c .before .before .before .loop in
-    let h = tasks-count _ (s .pre .0) in (
-      omega arith,
-      subst (Bounds _) (sym (c .before .bound .ensures))
-          (leap-bounds _ (s .pre .0) _ _ _ (s .args .task .0) _ _ _ (s .pre .1 .0)
-          (ap (λ (t : Task). t .blocking + t .execution) (c .before .before .before .before .before .row .ensures))
-          (s .pre .1 .1 .1 .0)
-          (sum-end _ _ (at .j) _ _ _ (at .inv .1) (omega arith) (omega arith))
-          (sum-end _ _ (at .j) _ _ _ (at .inv .2) (omega arith) (omega arith) ∙ zero-add _)),
-    )
+    let p = c .before .before .before .before .before .before .pre in
+    let sums = c .before .before .before .loop .inv .1 in
+    (omega arith, subst (Bounds _) (sym (c .before .bound .ensures)) (leap-bounds _ _ _ _ _ _ _ _ sums (p .0) (p .1 .1 .0) (omega arith)))
 
 pub leap-spec : {M : Type 1} → statement M
 leap-spec =
@@ -115,16 +86,15 @@ leap-spec =
     (tie.spec
     Inv-loop
     μ-loop
-    row-requires
-    add-fixed
     mul-fixed
     loop-holds
-    array-read-part-at
-    row-requires-2
+    shared-slice-read-row
+    cast-row
+    row-requires
     part-at-requires
-    add-fixed-2
+    add-fixed
     add-rate
-    add-j
+    add-k
     loop-less
     loop-again
     bound-requires

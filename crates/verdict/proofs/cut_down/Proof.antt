@@ -10,7 +10,7 @@ use Rattle.taskset.specs.Calls.{lists}
 use Rattle.taskset.specs.Exact.{passes-few-rules}
 use Rattle.assignment.specs.Audsley.{feasible}
 use Rattle.assignment.specs.Preemptive.{problem}
-use Rattle.assignment.specs.Settling.{Known, Held}
+use Rattle.assignment.specs.Settling.{Known, Meets, Held}
 use Rattle.verdict.specs.Core.{leftAfter}
 use Rattle.verdict.specs.Cutting.{left-none, left-next}
 use Rattle.verdict.proofs.cut_down.Statement.{statement}
@@ -19,7 +19,7 @@ use Rattle.verdict.proofs.cut_down.Tie as tie
 abbrev Inv-loop : tie.InvT-loop
 Inv-loop set known m cut₀ k₀ cut k =
     (k ≤ m) × (marked (cut .marks) ≡ leftAfter (feasible (problem (lists set))) m k) × Held (lists set) (marked (cut .marks)) (cut .stuck)
-    × Known (rows set) (marked (cut .stuck .left)) (marked known)
+    × Known (rows set) (marked (cut .stuck .left)) (marked known) × Meets (rows set) (cut .other)
 
 abbrev μ-loop : tie.MeasureT-loop
 μ-loop set known m cut₀ k₀ cut k = m - k
@@ -36,13 +36,15 @@ loop-holds c =
       omega arith,
       c .first .ensures ∙ left-none _ _,
       subst (λ (f : ℕ → Bool). Held (lists (s .args .set)) f (s .args .stuck)) (sym (c .first .ensures)) (s .pre .1 .0),
-      s .pre .1 .1,
+      s .pre .1 .1 .0,
+      s .pre .1 .1 .1,
     )
 
 try-rule-requires : tie.Need-try-rule-requires Inv-loop μ-loop
 try-rule-requires c κs =
     let s = c .before .before .before in
-    (s .pre .0, (omega (arith, few s), (c .before .loop .inv .2, c .before .loop .inv .3)))
+    let inv = c .before .loop .inv in
+    (s .pre .0, (omega (arith, few s), (inv .2, (inv .3, inv .4))))
 
 add-k : tie.Need-add-k Inv-loop μ-loop
 add-k c = omega (arith, few (c .before .before .before .before))
@@ -56,7 +58,8 @@ loop-again c =
       omega arith,
       left-next _ _ (at .k) _ _ (at .inv .1) (c .try-rule .ensures .0),
       c .try-rule .ensures .1 .0,
-      c .try-rule .ensures .1 .1,
+      c .try-rule .ensures .1 .1 .0,
+      c .try-rule .ensures .1 .1 .1,
     )
 
 returns : tie.Need-returns Inv-loop μ-loop

@@ -39,13 +39,15 @@ through c =
     subst (λ (f : ℕ → Bool). (c .settle .result .free ≡ 0) ↔ T (feasible (problem (lists (s .args .set))) f)) (less s) (c .settle .ensures .1 .0)
 
 returns : tie.Need-returns
-returns c = (tried-stays _ _ _ (through (c .before .before) .0 (omega arith)), c .before .before .before .before .pre .1 .1)
+returns c =
+    let held = c .before .before .before .before .pre .1 .1 in
+    (tried-stays _ _ _ (through (c .before .before) .0 (omega arith)), (held .0, (held .1 .0, c .before .before .settle .ensures .1 .1 .0)))
 
 returns-2 : tie.Need-returns-2
 returns-2 c =
     let settle = c .before .before .settle .ensures in (
       less (c .before .before .before .before) ∙ tried-goes _ _ _ (λ t. c .if1 .left (omega (arith, through (c .before .before) .1 t))),
-      (settle .0, settle .1 .1),
+      (settle .0, (settle .1 .1 .1, c .before .before .before .before .pre .1 .1 .1 .1)),
     )
 
 pub try-rule-spec : {M : Type 1} → statement M

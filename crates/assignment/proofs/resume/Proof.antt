@@ -48,7 +48,8 @@ written c = c .flatten .ensures .1
 chose-one : (c : tie.After-choose Inv-loop μ-loop)
     → let tasks = rows (c .before .before .before .before .before .before .before .before .before .before .args .set) in
     c .choose .result ≡ chosen (length tasks) (offer tasks (marked (c .before .before .ready .result)) (marked (c .before .before .before .before .loop .left)))
-chose-one c = chosen-in (written (c .before .before .before .before .before .before)) (marked (c .before .before .ready .result)) (marked (c .before .before .before .before .loop .left)) (c .choose .ensures)
+chose-one c =
+    chosen-in (written (c .before .before .before .before .before .before)) (marked (c .before .before .ready .result)) (marked (c .before .before .before .before .loop .left)) (c .choose .ensures)
 
 slice-aggregate-flatten : tie.Need-slice-aggregate-flatten Inv-loop μ-loop
 slice-aggregate-flatten c = refl

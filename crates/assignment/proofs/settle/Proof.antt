@@ -42,14 +42,17 @@ written : (c : tie.After-flatten Inv-loop μ-loop) → tasksIn (take (c .flatten
 written c = c .flatten .ensures .1
 
 -- so who takes the level is one of those that may
-chose : (c : tie.After-choose-any Inv-loop μ-loop) → AnyOf (rows (c .before .before .before .before .before .before .before .before .before .before .args .set)) (marked (c .before .before .ready .result)) (marked (c .before .before .before .before .loop .left)) (c .choose-any .result)
+chose : (c : tie.After-choose-any Inv-loop μ-loop)
+    → AnyOf (rows (c .before .before .before .before .before .before .before .before .before .before .args .set))
+    (marked (c .before .before .ready .result)) (marked (c .before .before .before .before .loop .left)) (c .choose-any .result)
 chose c =
     let ready = marked (c .before .before .ready .result) in
     let left = marked (c .before .before .before .before .loop .left) in
     subst (λ (tasks : List Task). AnyOf tasks ready left (c .choose-any .result)) (written (c .before .before .before .before .before .before)) (c .choose-any .ensures)
 
 took : (c : tie.After-task Inv-loop μ-loop)
-    → AnyOf (rows (c .before .before .before .before .before .before .before .before .before .before .before .before .args .set)) (marked (c .before .before .before .before .ready .result)) (marked (c .before .before .before .before .before .before .loop .left)) (Takes (c .task .given .0 .0) (c .task .given .0 .1 .0))
+    → AnyOf (rows (c .before .before .before .before .before .before .before .before .before .before .before .before .args .set))
+    (marked (c .before .before .before .before .ready .result)) (marked (c .before .before .before .before .before .before .loop .left)) (Takes (c .task .given .0 .0) (c .task .given .0 .1 .0))
 took c = subst (AnyOf _ _ _) (c .task .given .1) (chose (c .before .before))
 
 -- the next level is one of the array's
@@ -95,7 +98,11 @@ returns c =
     let s = c .before .before .before .before .before .before .before .before .before .before .before .before in
     let at = c .before .before .before .before .before .before .loop in (
       at .inv .1,
-      (held-stuck (lists (s .args .set)) _ _ (at .inv .1) _ (c .before .before .before .before .ready .ensures) (sound s) (subst (AnyOf _ _ _) (c .enum-told .given .1) (chose (c .before .before))), (held-meets _ _ _ (at .inv .1) (sound s), at .inv .2)),
+      (
+        held-stuck (lists (s .args .set)) _ _ (at .inv .1) _ (c .before .before .before .before .ready .ensures) (sound s)
+            (subst (AnyOf _ _ _) (c .enum-told .given .1) (chose (c .before .before))),
+        (held-meets _ _ _ (at .inv .1) (sound s), at .inv .2),
+      ),
     )
 
 sub-free : tie.Need-sub-free Inv-loop μ-loop

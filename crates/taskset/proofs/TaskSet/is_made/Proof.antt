@@ -18,7 +18,8 @@ rule-entries-requires c κs = search needs
 sized : (c : tie.Start) → Sized (c .args .self)
 sized c = sized-by _ _ (c .args .self) (c .good .0 .1 .1 .0 .1 .0 .1) (c .good .0 .1 .1 .1 .1 .0 .1 .0 .1)
 
-equation : (c : tie.After-rule-entries) → let s = c .before .before .before .before .args .self in leb (s .ntasks) maxTasks && leb (s .nrules) maxRules && c .before .task-entries .result && c .rule-entries .result ≡ isMade s
+equation : (c : tie.After-rule-entries) → let s = c .before .before .before .before .args .self in
+    leb (s .ntasks) maxTasks && leb (s .nrules) maxRules && c .before .task-entries .result && c .rule-entries .result ≡ isMade s
 unfolding isMade
 equation c = rw (c .before .task-entries .ensures, c .rule-entries .ensures)
 

@@ -77,10 +77,18 @@ ready-end m rules inPlay free e = rw e
 
 -- ---- a task's response at the level
 
-pub bid-is : (tasks : List Task) (i : ℕ) (left : List Bool) → i < length left → (ready : Bool) → ready ≡ true
-    → (own : Task) → own ≡ taskAt tasks i → (a : Response) → a ≡ responseTime tasks i (marked (set left i false)) (own .deadline)
-    → a ≡ pick ready (responseAt tasks i (without (marked left) i)) Late
-bid-is tasks i left l ready on own at a e = e ∙ rw (at, marked-without left i l, on)
+pub bid-is : (tasks : List Task) (i : ℕ) (left : List Bool) → i < length left → (own : Task) → own ≡ taskAt tasks i
+    → (a : Response) → a ≡ responseTime tasks i (marked (set left i false)) (own .deadline)
+    → a ≡ responseAt tasks i (without (marked left) i)
+bid-is tasks i left l own at a e = e ∙ rw (at, marked-without left i l)
+
+-- a ready task offers its response, and one that isn't offers none
+pub offer-ready : (tasks : List Task) (ready left : ℕ → Bool) (i : ℕ) → ready i ≡ true
+    → (a : Response) → a ≡ responseAt tasks i (without left i) → offer tasks ready left i ≡ a
+offer-ready tasks ready left i on a e = rw on (sym e)
+
+pub offer-none : (tasks : List Task) (ready left : ℕ → Bool) (i : ℕ) → ready i ≡ false → offer tasks ready left i ≡ Late
+offer-none tasks ready left i off = rw off
 
 -- ---- the greatest offer
 

@@ -7,19 +7,17 @@ ghost use mathlib.Core.Logic.{_↔_};
 ghost use Prim.Native.Nat.{_≤_, _<_};
 ghost use lib.Dec.{T};
 ghost use lib.ListN.{set, length};
-ghost use Rattle.sets.specs.Choice.{pick};
 ghost use Rattle.sets.specs.Bounded.{without};
 ghost use Rattle.sets.specs.Marks.{first, marked};
 ghost use Rattle.taskset.specs.Rows.{maxTasks};
 ghost use Rattle.taskset.specs.Adding.{rows, rules, isMade};
 ghost use Rattle.taskset.specs.Calls.{lists};
-ghost use Rattle.response.specs.declared.Response.the-variants.{Late};
 ghost use Rattle.response.specs.Words.{tasksIn, Rows};
 ghost use Rattle.assignment.specs.Orders.{SomeOrder};
 ghost use Rattle.assignment.specs.Audsley.{ready, assign, feasible};
 ghost use Rattle.assignment.specs.Preemptive.{responseAt, problem};
 ghost use Rattle.assignment.specs.Levels.{offer, chosen, Stands, Resumes};
-ghost use Rattle.assignment.specs.Settling.{AnyOf, passing, Known, Meets, Held};
+ghost use Rattle.assignment.specs.Settling.{AnyOf, leftPasses, passing, Known, Meets, Held};
 use response::MAX_WORDS;
 use response::ROW;
 use response::Response;
@@ -94,20 +92,17 @@ fn ready(set: TaskSet, marks: [bool; MAX_RULES], left: [bool; MAX_TASKS]) -> [bo
     ready
 }
 
-// The response of a task with the others that are left above it; late where it is not ready.
-fn bid(rows: &[u64], ready: bool, left: [bool; MAX_TASKS], task: TaskIndex) -> Response
+// The response of a task with the others that are left above it.
+fn bid(rows: &[u64], left: [bool; MAX_TASKS], task: TaskIndex) -> Response
     requires { ⌜ Rows (tasksIn (now rows)) ⌝ }
     requires { ⌜ task .0 < length (tasksIn (now rows)) ⌝ }
-    ensures { λ r. ⌜ r ≡ pick ready (responseAt (tasksIn (now (rows .entry))) (task .0) (without (marked left) (task .0))) Late ⌝ }
+    ensures { λ r. ⌜ r ≡ responseAt (tasksIn (now (rows .entry))) (task .0) (without (marked left) (task .0)) ⌝ }
 {
-    if ready {
-        let i = task.0;
-        let own = row(rows, i);
-        let mut above = left;
-        above[i] = false;
-        return response_time(rows, task, above, own.deadline);
-    }
-    Response::Late
+    let i = task.0;
+    let own = row(rows, i);
+    let mut above = left;
+    above[i] = false;
+    response_time(rows, task, above, own.deadline)
 }
 
 // Of the ready tasks that meet their deadline, the one with the greatest index takes the level.
@@ -118,9 +113,11 @@ fn choose(rows: &[u64], ready: [bool; MAX_TASKS], left: [bool; MAX_TASKS]) -> Ch
     let mut i = rows.len() / ROW;
     while 0 < i {
         i -= 1;
-        let task = TaskIndex(i);
-        if let Response::Within(response) = bid(rows, ready[i], left, task) {
-            return Choice::Takes(task, response);
+        if ready[i] {
+            let task = TaskIndex(i);
+            if let Response::Within(response) = bid(rows, left, task) {
+                return Choice::Takes(task, response);
+            }
         }
     }
     Choice::Nobody
@@ -189,6 +186,21 @@ pub fn trial(set: TaskSet, marks: [bool; MAX_RULES]) -> Assignment
     resume(set, marks, start(set))
 }
 
+// A task is left and meets its deadline with all the others left above it.
+fn passes(rows: &[u64], left: [bool; MAX_TASKS], task: TaskIndex) -> bool
+    requires { ⌜ Rows (tasksIn (now rows)) ⌝ }
+    requires { ⌜ task .0 < length (tasksIn (now rows)) ⌝ }
+    ensures { λ r. ⌜ r ≡ leftPasses (tasksIn (now (rows .entry))) (marked left) (task .0) ⌝ }
+{
+    let i = task.0;
+    if left[i] {
+        if let Response::Within(_) = bid(rows, left, task) {
+            return true;
+        }
+    }
+    false
+}
+
 // The tasks left that meet their deadline with all the others left above them.
 pub fn passing(set: TaskSet, left: [bool; MAX_TASKS]) -> [bool; MAX_TASKS]
     requires { ⌜ isMade set ≡ true ⌝ }
@@ -200,9 +212,7 @@ pub fn passing(set: TaskSet, left: [bool; MAX_TASKS]) -> [bool; MAX_TASKS]
     let mut passing = [false; MAX_TASKS];
     let mut i = 0;
     while i < count {
-        if let Response::Within(_) = bid(&words[..n], left[i], left, TaskIndex(i)) {
-            passing[i] = true;
-        }
+        passing[i] = passes(&words[..n], left, TaskIndex(i));
         i += 1;
     }
     passing

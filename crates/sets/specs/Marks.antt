@@ -10,7 +10,7 @@ use lib.Dec.{eqb, ltb, ltb→lt, lt→ltb}
 use lib.ListN.{length, getD, set, replicate, length-replicate, getD-replicate, List·getD-eq-default}
 use lib.Seq.{getD-set-same, getD-set-other, ext-getD}
 use borrow.Author.Tests.{eqb-true, eqb-false, lt-ltb, le-ltb}
-use Rattle.sets.specs.Choice.{pick, lt-or-le, same-test, and-false}
+use Rattle.sets.specs.Choice.{pick, lt-or-le, same-test}
 use Rattle.sets.specs.Bounded.{without}
 use Rattle.sets.specs.Pad.{pad, pad-length, pad-used, pad-unused, pad-rest}
 
@@ -69,20 +69,14 @@ module _ (p : ℕ → Bool) where
   pub marked-none-of : (n : ℕ) → marked (replicate n false) ≡ firstOf 0 p
   marked-none-of n = marked-first-none n ∙ fun-ext (λ j. rw (le-ltb j 0 (omega arith)))
 
-  module _ (marks : List Bool) (k : ℕ) (e : marked marks ≡ firstOf k p) where
-    pub marked-passes : k < length marks → p k ≡ true → marked (set marks k true) ≡ firstOf (k + 1) p
-    marked-passes h t = fun-ext (λ j. marked-store marks k true h j ∙ go j (eqb k j) refl ∙ ap (λ (b : Bool). b && p j) (first-next k j))
-      where
-        go : (j : ℕ) (b : Bool) → eqb k j ≡ b → pick b true (marked marks j) ≡ (pick b true (first k j) && p j)
-        go j true f = sym t ∙ ap p (eqb-true k j f)
-        go j false f = ap (λ (a : ℕ → Bool). a j) e
-
-    pub marked-fails : p k ≡ false → marked marks ≡ firstOf (k + 1) p
-    marked-fails t = fun-ext (λ j. ap (λ (a : ℕ → Bool). a j) e ∙ go j (eqb k j) refl ∙ ap (λ (b : Bool). b && p j) (first-next k j))
-      where
-        go : (j : ℕ) (b : Bool) → eqb k j ≡ b → (first k j && p j) ≡ (pick b true (first k j) && p j)
-        go j true f = rw (sym (ap p (eqb-true k j f)), t) (and-false (first k j))
-        go j false f = refl
+  pub marked-next : (marks : List Bool) (k : ℕ) → marked marks ≡ firstOf k p → k < length marks → (b : Bool) → b ≡ p k
+      → marked (set marks k b) ≡ firstOf (k + 1) p
+  marked-next marks k e h b t =
+      fun-ext (λ j. marked-store marks k b h j ∙ go j (eqb k j) refl ∙ ap (λ (c : Bool). c && p j) (first-next k j))
+    where
+      go : (j : ℕ) (c : Bool) → eqb k j ≡ c → pick c b (marked marks j) ≡ (pick c true (first k j) && p j)
+      go j true f = t ∙ ap p (eqb-true k j f)
+      go j false f = ap (λ (a : ℕ → Bool). a j) e
 
 -- ---- the first n values of a function, as a list
 

@@ -13,23 +13,19 @@ row-requires : tie.Need-row-requires
 row-requires c κs = search needs
 
 array-write-above : tie.Need-array-write-above
-array-write-above c = let s = c .before .before .before in omega (arith, s .pre .0 .few, s .pre .1)
+array-write-above c = let s = c .before .before in omega (arith, s .pre .0 .few, s .pre .1)
 
 response-time-requires : tie.Need-response-time-requires
 response-time-requires c κs =
-    let s = c .before .before .before in
+    let s = c .before .before in
     let own = read-row (s .pre .0) (s .pre .1) (c .row .ensures) in
     (s .pre .0, (s .pre .1, omega (arith, own .deadline, own .period)))
 
 returns : tie.Need-returns
 returns c =
-    let s = c .before .before .before .before in
-    bid-is _ _ (s .args .left) (let long : length (s .args .left) ≡ maxTasks = search needs in omega (arith, long, s .pre .0 .few, s .pre .1))
-    (s .args .ready) (c .before .before .if1 .taken) _ (c .before .row .ensures) _ (c .response-time .ensures .0)
-
-returns-2 : tie.Need-returns-2
-returns-2 c = search needs
+    let s = c .before .before .before in
+    let long : length (s .args .left) ≡ maxTasks = search needs in
+    bid-is _ _ (s .args .left) (omega (arith, long, s .pre .0 .few, s .pre .1)) _ (c .before .row .ensures) _ (c .response-time .ensures .0)
 
 pub bid-spec : {M : Type 1} → statement M
-bid-spec =
-    tie.close (tie.spec row-requires array-write-above response-time-requires returns returns-2)
+bid-spec = tie.close (tie.spec row-requires array-write-above response-time-requires returns)

@@ -1,20 +1,16 @@
 -- `assignment::passing` meets its contract: the first i tasks are marked as they pass. Assumes nothing.
 use mathlib.Core.Path.{_≡_, refl, sym, ap, subst, _∙_}
-use mathlib.Core.Bool.{true}
 use mathlib.Core.List.{List}
-use mathlib.Core.Logic.{⊎-elim}
 use Prim.Native.Nat.{ℕ, _-_, _≤_}
 use native.Mathlib.Omega.{arith}
-use borrow.Author.Needs.{needs}
 use lib.ListN.{length, take, length-set}
 use lib.Seq.{length-take-le}
-use Rattle.sets.specs.Marks.{firstOf, marked, marked-none-of, marked-passes, marked-fails}
+use Rattle.sets.specs.Marks.{firstOf, marked, marked-none-of, marked-next}
 use Rattle.taskset.specs.declared.Task.{Task}
 use Rattle.taskset.specs.Rows.{maxTasks}
 use Rattle.taskset.specs.Adding.{rows}
 use Rattle.taskset.specs.Exact.{Sized, sized-by, passes-few, passes-counts}
 use Rattle.response.specs.Words.{tasksIn, Rows, set-rows}
-use Rattle.assignment.specs.Preemptive.{isWithin}
 use Rattle.assignment.specs.Settling.{leftPasses, passing}
 use Rattle.assignment.proofs.passing.Statement.{statement}
 use Rattle.assignment.proofs.passing.Tie as tie
@@ -52,45 +48,30 @@ loop-holds c = (omega arith, refl, marked-none-of _ maxTasks)
 array-share-prefix-words : tie.Need-array-share-prefix-words Inv-loop μ-loop
 array-share-prefix-words c = c .before .before .before .flatten .ensures .0
 
-slice-aggregate-bid : tie.Need-slice-aggregate-bid Inv-loop μ-loop
-slice-aggregate-bid c = sym (length-take-le _ _ (c .before .before .before .before .flatten .ensures .0))
+slice-aggregate-passes : tie.Need-slice-aggregate-passes Inv-loop μ-loop
+slice-aggregate-passes c = sym (length-take-le _ _ (c .before .before .before .before .flatten .ensures .0))
 
-array-read-bid : tie.Need-array-read-bid Inv-loop μ-loop
-array-read-bid c = omega (arith, few (c .before .before .before .before .before .before))
-
-bid-requires : tie.Need-bid-requires Inv-loop μ-loop
-bid-requires c κs =
+passes-requires : tie.Need-passes-requires Inv-loop μ-loop
+passes-requires c κs =
     let f = c .before .before .before .before in
     (subst Rows (sym (written f)) (set-rows _ (f .before .before .pre)), omega (arith, count f))
 
-enum-told : tie.Need-enum-told Inv-loop μ-loop
-enum-told c = search needs
-
 array-write-passing : tie.Need-array-write-passing Inv-loop μ-loop
-array-write-passing c = omega (arith, few (c .before .before .before .before .before .before .before .before .before))
-
-enum-told-2 : tie.Need-enum-told-2 Inv-loop μ-loop
-enum-told-2 c = search needs
+array-write-passing c = omega (arith, few (c .before .before .before .before .before .before .before))
 
 add-i : tie.Need-add-i Inv-loop μ-loop
-add-i c = omega (arith, few (c .before .before .before .before .before .before .before .before))
+add-i c = omega (arith, few (c .before .before .before .before .before .before .before))
 
 loop-less : tie.Need-loop-less Inv-loop μ-loop
 loop-less c = omega arith
 
 loop-again : tie.Need-loop-again Inv-loop μ-loop
 loop-again c =
-    let f = c .before .before .before .before .before .before in
-    let s = f .before .before in
-    let at = c .before .before .before .before .loop in
-    let p = leftPasses (tasksIn (take (f .flatten .result) (f .flatten .last .1 .0))) (marked (s .args .t2)) in
-    let bid = ap isWithin (sym (c .before .bid .ensures)) in (
+    let s = c .before .before .before .before .before .before .before in
+    let at = c .before .before .before .loop in (
       omega arith,
-      ⊎-elim (λ r. rw (r .2) (length-set (at .passing) (at .i) true ∙ at .inv .1)) (λ r. rw (r .2) (at .inv .1)) (c .match .came),
-      ⊎-elim
-          (λ r. rw (r .2) (marked-passes p (at .passing) (at .i) (at .inv .2) (omega (arith, at .inv .1, few s)) (bid ∙ ap isWithin (r .1 .given .1))))
-          (λ r. rw (r .2) (marked-fails p (at .passing) (at .i) (at .inv .2) (bid ∙ ap isWithin (r .1 .given .1))))
-          (c .match .came),
+      length-set (at .passing) (at .i) _ ∙ at .inv .1,
+      marked-next _ (at .passing) (at .i) (at .inv .2) (omega (arith, at .inv .1, few s)) _ (c .passes .ensures),
     )
 
 returns : tie.Need-returns Inv-loop μ-loop
@@ -98,7 +79,7 @@ returns c =
     let f = c .before .before .before in
     let at = c .before .loop in
     let whole : at .i ≡ length (tasksIn (take (f .flatten .result) (f .flatten .last .1 .0))) = omega (arith, at .inv .0, count f) in
-    let left = marked (f .before .before .args .t2) in
+    let left = marked (f .before .before .args .left) in
     at .inv .2
     ∙ ap (λ (m : ℕ). firstOf m (leftPasses (tasksIn (take (f .flatten .result) (f .flatten .last .1 .0))) left)) whole
     ∙ ap (λ (tasks : List Task). passing tasks left) (written f)
@@ -113,12 +94,9 @@ passing-spec =
     flatten-requires
     loop-holds
     array-share-prefix-words
-    slice-aggregate-bid
-    array-read-bid
-    bid-requires
-    enum-told
+    slice-aggregate-passes
+    passes-requires
     array-write-passing
-    enum-told-2
     add-i
     loop-less
     loop-again

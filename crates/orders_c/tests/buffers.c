@@ -317,19 +317,19 @@ static void call_damaged(struct bytes text)
 static void call_longest_order(void)
 {
     static uint8_t text[ORDERS_TEXT_MAX], listing[ORDERS_LISTING_MAX];
-    struct bytes sheet = { text, 0 };
+    struct bytes made = { text, 0 };
     struct answer want = { 0, { listing, 0 } };
     PUT(listing, want.listing.len, "order\t64\n");
     for (int k = 0; k < 64; k++) {
-        PUT(text, sheet.len, "t\t1\t1000000\t1000000\t%d\t0\n", 999999 - 2 * k);
+        PUT(text, made.len, "t\t1\t1000000\t1000000\t%d\t0\n", 999999 - 2 * k);
         PUT(listing, want.listing.len, "%d\t%d\t1000000\n", k, k);
     }
     for (int k = 0; k < 63; k++)
-        PUT(text, sheet.len, "r\t%d\t%d\n", k, k + 1);
+        PUT(text, made.len, "r\t%d\t%d\n", k, k + 1);
     part = "longest order,";
     if (want.listing.len != 885)
-        wrong(sheet, 0, 0, "the made listing should have 885 bytes");
-    call_all(sheet, want);
+        wrong(made, 0, 0, "the made listing should have 885 bytes");
+    call_all(made, want);
 }
 
 /*
@@ -339,22 +339,22 @@ static void call_longest_order(void)
 static void call_longest_core(void)
 {
     static uint8_t text[ORDERS_TEXT_MAX], listing[ORDERS_LISTING_MAX];
-    struct bytes sheet = { text, 0 };
+    struct bytes made = { text, 0 };
     struct answer want = { 0, { listing, 0 } };
     PUT(listing, want.listing.len, "core\t64\n");
     for (int k = 0; k < 64; k++)
-        PUT(text, sheet.len, "t\t1\t1000000\t1000000\t0\t0\n");
+        PUT(text, made.len, "t\t1\t1000000\t1000000\t0\t0\n");
     for (int k = 0; k < 128; k++)
-        PUT(text, sheet.len, "r\t%d\t%d\n", k % 64, (k + 1) % 64);
+        PUT(text, made.len, "r\t%d\t%d\n", k % 64, (k + 1) % 64);
     for (int k = 0; k < 64; k++)
         PUT(listing, want.listing.len, "%d\t%d\t%d\n", k + 64, k, (k + 1) % 64);
     part = "longest core,";
     if (want.listing.len != 592)
-        wrong(sheet, 0, 0, "the made listing should have 592 bytes");
+        wrong(made, 0, 0, "the made listing should have 592 bytes");
     for (size_t out_len = 590; out_len <= 594; out_len++)
-        call_both(sheet, want, out_len);
-    call_both(sheet, want, 0);
-    call_both(sheet, want, ORDERS_LISTING_MAX);
+        call_both(made, want, out_len);
+    call_both(made, want, 0);
+    call_both(made, want, ORDERS_LISTING_MAX);
 }
 
 /* ---- stored texts ---- */

@@ -12,7 +12,7 @@ use lib.Dec.{T, ltb}
 use lib.ListN.{length, getD, set, length-map}
 use Rattle.sets.specs.Choice.{pick, option, true→T, false→refuted, and-right}
 use Rattle.sets.specs.Bounded.{Subset, without, without-still, without-other, greatest, Greatest, found, nothing, greatest-is}
-use Rattle.sets.specs.Marks.{firstOf, marked, marked-without}
+use Rattle.sets.specs.Marks.{firstWith, marked, marked-without}
 use Rattle.sets.specs.Pad.{map-at}
 use Rattle.taskset.specs.declared.Task.{Task}
 use Rattle.taskset.specs.declared.TaskIndex.{TaskIndex}
@@ -40,7 +40,7 @@ abbrev pub leftPasses : List Task → (ℕ → Bool) → ℕ → Bool
 leftPasses tasks left i = isWithin (offer tasks left left i)
 
 abbrev pub passing : List Task → (ℕ → Bool) → ℕ → Bool
-passing tasks left = firstOf (length tasks) (leftPasses tasks left)
+passing tasks left = firstWith (length tasks) (leftPasses tasks left)
 
 -- tasks known to meet their deadline with the others left above them
 unfoldable pub Known : List Task → (ℕ → Bool) → (ℕ → Bool) → Type 0

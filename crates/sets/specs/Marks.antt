@@ -62,15 +62,15 @@ marked-first marks k h e =
 
 -- ---- the first n that pass a test, marked one by one
 
-abbrev pub firstOf : ℕ → (ℕ → Bool) → ℕ → Bool
-firstOf n p j = first n j && p j
+abbrev pub firstWith : ℕ → (ℕ → Bool) → ℕ → Bool
+firstWith n p j = first n j && p j
 
 module _ (p : ℕ → Bool) where
-  pub marked-none-of : (n : ℕ) → marked (replicate n false) ≡ firstOf 0 p
+  pub marked-none-of : (n : ℕ) → marked (replicate n false) ≡ firstWith 0 p
   marked-none-of n = marked-first-none n ∙ fun-ext (λ j. rw (le-ltb j 0 (omega arith)))
 
-  pub marked-next : (marks : List Bool) (k : ℕ) → marked marks ≡ firstOf k p → k < length marks → (b : Bool) → b ≡ p k
-      → marked (set marks k b) ≡ firstOf (k + 1) p
+  pub marked-next : (marks : List Bool) (k : ℕ) → marked marks ≡ firstWith k p → k < length marks → (b : Bool) → b ≡ p k
+      → marked (set marks k b) ≡ firstWith (k + 1) p
   marked-next marks k e h b t =
       fun-ext (λ j. marked-store marks k b h j ∙ go j (eqb k j) refl ∙ ap (λ (c : Bool). c && p j) (first-next k j))
     where

@@ -5,7 +5,7 @@ use Prim.Native.Nat.{ℕ, _-_, _≤_}
 use native.Mathlib.Omega.{arith}
 use lib.ListN.{length, take, length-set}
 use lib.Seq.{length-take-le}
-use Rattle.sets.specs.Marks.{firstOf, marked, marked-none-of, marked-next}
+use Rattle.sets.specs.Marks.{firstWith, marked, marked-none-of, marked-next}
 use Rattle.taskset.specs.declared.Task.{Task}
 use Rattle.taskset.specs.Rows.{maxTasks}
 use Rattle.taskset.specs.Adding.{rows}
@@ -17,7 +17,7 @@ use Rattle.assignment.proofs.passing.Tie as tie
 
 abbrev Inv-loop : tie.InvT-loop
 Inv-loop left words n count passing₀ i₀ passing i =
-    (i ≤ count) × (length passing ≡ maxTasks) × (marked passing ≡ firstOf i (leftPasses (tasksIn (take n words)) (marked left)))
+    (i ≤ count) × (length passing ≡ maxTasks) × (marked passing ≡ firstWith i (leftPasses (tasksIn (take n words)) (marked left)))
 
 abbrev μ-loop : tie.MeasureT-loop
 μ-loop left words n count passing₀ i₀ passing i = count - i
@@ -81,7 +81,7 @@ returns c =
     let whole : at .i ≡ length (tasksIn (take (f .flatten .result) (f .flatten .last .1 .0))) = omega (arith, at .inv .0, count f) in
     let left = marked (f .before .before .args .left) in
     at .inv .2
-    ∙ ap (λ (m : ℕ). firstOf m (leftPasses (tasksIn (take (f .flatten .result) (f .flatten .last .1 .0))) left)) whole
+    ∙ ap (λ (m : ℕ). firstWith m (leftPasses (tasksIn (take (f .flatten .result) (f .flatten .last .1 .0))) left)) whole
     ∙ ap (λ (tasks : List Task). passing tasks left) (written f)
 
 pub passing-spec : {M : Type 1} → statement M

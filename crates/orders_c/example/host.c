@@ -12,26 +12,25 @@
 #include "orders.h"
 
 static const char *const meanings[] = {
-    "",
-    "a period is out of its range",
-    "an execution time is out of its range",
-    "a deadline is out of its range",
-    "a jitter is out of its range",
-    "a blocking is out of its range",
-    "a rule names one task twice",
-    "a line does not have the right form",
-    "the text is over 16,384 bytes",
-    "the buffer is shorter than the listing",
-    "more than 64 tasks",
-    "a rule names a place that has no task",
-    "more than 128 rules",
-    "the text has no task",
+    [ORDERS_PERIOD_RANGE] = "a period is out of its range",
+    [ORDERS_EXECUTION_RANGE] = "an execution time is out of its range",
+    [ORDERS_DEADLINE_RANGE] = "a deadline is out of its range",
+    [ORDERS_JITTER_RANGE] = "a jitter is out of its range",
+    [ORDERS_BLOCKING_RANGE] = "a blocking is out of its range",
+    [ORDERS_SAME_TASK_TWICE] = "a rule names one task twice",
+    [ORDERS_UNREADABLE_LINE] = "a line does not have the right form",
+    [ORDERS_TEXT_TOO_LONG] = "the text is over 16,384 bytes",
+    [ORDERS_BUFFER_TOO_SHORT] = "the buffer is shorter than the listing",
+    [ORDERS_TOO_MANY_TASKS] = "more than 64 tasks",
+    [ORDERS_UNKNOWN_TASK] = "a rule names a place that has no task",
+    [ORDERS_TOO_MANY_RULES] = "more than 128 rules",
+    [ORDERS_NO_TASK] = "the text has no task",
 };
 
-/* Says what a refusal number means. */
-static const char *meaning(uint64_t number)
+/* Says what a refusal means. */
+static const char *meaning(uint64_t refusal)
 {
-    return number < sizeof meanings / sizeof meanings[0] ? meanings[number] : "an unknown number";
+    return refusal >= ORDERS_PERIOD_RANGE && refusal <= ORDERS_NO_TASK ? meanings[refusal] : "an unknown number";
 }
 
 /* Reads until the room is full or the file ends; a read may give less than was asked for. */

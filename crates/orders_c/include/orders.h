@@ -12,12 +12,15 @@
  * A rule may name only tasks that stand on lines before it.
  *
  * The listing, in the same form, is an order in which every task meets its
- * deadline and every rule is kept (one of them, where there are several):
+ * deadline and every rule is kept:
  *
  *     order  count         then one line for each level, highest first: level, place, response
  *
- * or, where no such order exists, a core: rules under which there is none,
- * while with any one of them taken out there is one:
+ * Of several such orders it is the one that fills the levels from the lowest
+ * up, each with the task of the greatest place that the rules let stand there
+ * and that meets its deadline there. Where no such order exists, the listing
+ * is a core: rules under which there is none, while with any one of them taken
+ * out there is one:
  *
  *     core  count          then one line for each rule: rule place, u, l
  *
@@ -36,26 +39,32 @@
 #define ORDERS_LISTING_MAX 1289
 
 /*
- * Results below 100 are refusals:
- *
- *      1  a period is not 1 to 1,000,000
- *      2  an execution time is not 1 to the period
- *      3  a deadline is not 1 to the period
- *      4  a jitter is not 0 to the period less 1
- *      5  a blocking is not 0 to the period
- *      6  a rule names one task twice
- *      7  a line does not have the form above
- *      8  the text has more than 16,384 bytes
- *      9  the buffer is shorter than the listing
- *     10  a task line after 64 tasks
- *     11  a rule names a place that has no task yet
- *     12  a rule line after 128 rules
- *     13  the text has no task
- *
- * 8 comes first, then the first line that is refused, then 13, then 9.
- * On one line 7 comes first, then 1 to 5 and 10 for a task, or 6, 11 and 12
- * for a rule.
+ * Stack that is enough for a call, in bytes. 44,424 were measured: the deepest
+ * byte that calls changed on a stack filled with one value (tests/stack.c).
  */
+#define ORDERS_STACK 65536
+
+/*
+ * Results below ORDERS_LISTED are refusals. ORDERS_TEXT_TOO_LONG comes first,
+ * then the first line that is refused, then ORDERS_NO_TASK, then
+ * ORDERS_BUFFER_TOO_SHORT. On one line ORDERS_UNREADABLE_LINE comes first,
+ * then 1 to 5 and 10 for a task, or 6, 11 and 12 for a rule.
+ */
+enum {
+    ORDERS_PERIOD_RANGE = 1,     /* a period is not 1 to 1,000,000 */
+    ORDERS_EXECUTION_RANGE = 2,  /* an execution time is not 1 to the period */
+    ORDERS_DEADLINE_RANGE = 3,   /* a deadline is not 1 to the period */
+    ORDERS_JITTER_RANGE = 4,     /* a jitter is not 0 to the period less 1 */
+    ORDERS_BLOCKING_RANGE = 5,   /* a blocking is not 0 to the period */
+    ORDERS_SAME_TASK_TWICE = 6,  /* a rule names one task twice */
+    ORDERS_UNREADABLE_LINE = 7,  /* a line does not have the form above */
+    ORDERS_TEXT_TOO_LONG = 8,    /* the text has more than ORDERS_TEXT_MAX bytes */
+    ORDERS_BUFFER_TOO_SHORT = 9, /* the buffer is shorter than the listing */
+    ORDERS_TOO_MANY_TASKS = 10,  /* a task line after 64 tasks */
+    ORDERS_UNKNOWN_TASK = 11,    /* a rule names a place that has no task yet */
+    ORDERS_TOO_MANY_RULES = 12,  /* a rule line after 128 rules */
+    ORDERS_NO_TASK = 13          /* the text has no task */
+};
 
 /* A result of ORDERS_LISTED + n says that a listing of n bytes was written. */
 #define ORDERS_LISTED 100
@@ -68,9 +77,9 @@ extern "C" {
  * Reads the text_len bytes at text, and writes the listing to the out_len
  * bytes at out.
  *
- * The result is a refusal number, and then no byte of the buffer has changed;
- * or it is 100 plus the listing's byte count, and then the listing stands in
- * the front of the buffer and every byte after it is as it was. A buffer of
+ * The result is a refusal, and then no byte of the buffer has changed; or it
+ * is ORDERS_LISTED plus the listing's byte count, and then the listing stands
+ * in the front of the buffer and every byte after it is as it was. A buffer of
  * exactly the listing's size is enough. No zero byte is put at the end.
  *
  * The text is never changed. The call keeps nothing from one call to the next,

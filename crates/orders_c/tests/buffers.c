@@ -23,6 +23,7 @@
 #include <sys/mman.h>
 #include <unistd.h>
 #include "orders.h"
+#include "texts.h"
 
 enum {
     GUARD = 16,      /* bytes that stand before and after a guarded buffer */
@@ -31,12 +32,6 @@ enum {
     DAMAGED = 6,     /* damaged forms of each text */
     REGION = 131072, /* bytes between two forbidden pages; no stored text is longer */
     SHOWN = 20       /* wrong calls that are described */
-};
-
-/* A stretch of bytes. */
-struct bytes {
-    const uint8_t *at;
-    size_t len;
 };
 
 /* What a call has to give: a refusal number, or 0 and a listing. */
@@ -146,7 +141,7 @@ static uint64_t expected(struct answer want, size_t out_len)
 {
     if (want.number)
         return want.number;
-    return out_len < want.listing.len ? 9 : ORDERS_LISTED + want.listing.len;
+    return out_len < want.listing.len ? ORDERS_BUFFER_TOO_SHORT : ORDERS_LISTED + want.listing.len;
 }
 
 /*
@@ -243,7 +238,7 @@ static void call_all(struct bytes text, struct answer want)
 static int fits(uint64_t result, const uint8_t *out)
 {
     if (result < ORDERS_LISTED)
-        return result >= 1 && result <= 13 && result != 9;
+        return result >= ORDERS_PERIOD_RANGE && result <= ORDERS_NO_TASK && result != ORDERS_BUFFER_TOO_SHORT;
     size_t len = (size_t)(result - ORDERS_LISTED);
     if (result > ORDERS_LISTED + ORDERS_LISTING_MAX || len < 7 || out[len - 1] != '\n')
         return 0;
@@ -308,130 +303,39 @@ static void call_damaged(struct bytes text)
     free(form);
 }
 
-/* ---- the largest listings ---- */
+/* ---- texts with their answers ---- */
 
-/* Adds to a text or a listing that is being made. */
-#define PUT(room, len, ...) ((len) += (size_t)sprintf((char *)(room) + (len), __VA_ARGS__))
-
-/* 64 tasks in a chain of rules, each with response 1000000: 885 bytes. */
-static void call_longest_order(void)
+/* What a call has to give where `orders` writes this. */
+static struct answer answer_of(struct bytes written)
 {
-    static uint8_t text[ORDERS_TEXT_MAX], listing[ORDERS_LISTING_MAX];
-    struct bytes made = { text, 0 };
-    struct answer want = { 0, { listing, 0 } };
-    PUT(listing, want.listing.len, "order\t64\n");
-    for (int k = 0; k < 64; k++) {
-        PUT(text, made.len, "t\t1\t1000000\t1000000\t%d\t0\n", 999999 - 2 * k);
-        PUT(listing, want.listing.len, "%d\t%d\t1000000\n", k, k);
-    }
-    for (int k = 0; k < 63; k++)
-        PUT(text, made.len, "r\t%d\t%d\n", k, k + 1);
-    part = "longest order,";
-    if (want.listing.len != 885)
-        wrong(made, 0, 0, "the made listing should have 885 bytes");
-    call_all(made, want);
-}
-
-/*
- * 64 tasks and a circle of 64 rules, twice: the first 64 rules are taken out,
- * and each of the others is needed. 592 bytes.
- */
-static void call_longest_core(void)
-{
-    static uint8_t text[ORDERS_TEXT_MAX], listing[ORDERS_LISTING_MAX];
-    struct bytes made = { text, 0 };
-    struct answer want = { 0, { listing, 0 } };
-    PUT(listing, want.listing.len, "core\t64\n");
-    for (int k = 0; k < 64; k++)
-        PUT(text, made.len, "t\t1\t1000000\t1000000\t0\t0\n");
-    for (int k = 0; k < 128; k++)
-        PUT(text, made.len, "r\t%d\t%d\n", k % 64, (k + 1) % 64);
-    for (int k = 0; k < 64; k++)
-        PUT(listing, want.listing.len, "%d\t%d\t%d\n", k + 64, k, (k + 1) % 64);
-    part = "longest core,";
-    if (want.listing.len != 592)
-        wrong(made, 0, 0, "the made listing should have 592 bytes");
-    for (size_t out_len = 590; out_len <= 594; out_len++)
-        call_both(made, want, out_len);
-    call_both(made, want, 0);
-    call_both(made, want, ORDERS_LISTING_MAX);
-}
-
-/* ---- stored texts ---- */
-
-static struct bytes load(const char *name)
-{
-    struct bytes all = { NULL, 0 };
-    FILE *in = fopen(name, "rb");
-    uint8_t *p = NULL;
-    size_t size = 0, got;
-    if (!in) {
-        perror(name);
-        exit(2);
-    }
-    do {
-        if (all.len == size && !(p = realloc(p, size = 2 * size + 65536)))
-            exit(2);
-        got = fread(p + all.len, 1, size - all.len, in);
-        all.len += got;
-    } while (got > 0);
-    if (ferror(in)) {
-        perror(name);
-        exit(2);
-    }
-    fclose(in);
-    all.at = p;
-    return all;
-}
-
-/* Takes off what stands before the next such byte; the byte itself is dropped. */
-static struct bytes take_until(struct bytes *rest, uint8_t byte)
-{
-    const uint8_t *end = rest->len ? memchr(rest->at, byte, rest->len) : NULL;
-    struct bytes piece = { rest->at, end ? (size_t)(end - rest->at) : rest->len };
-    size_t gone = piece.len + (end ? 1 : 0);
-    rest->at += gone;
-    rest->len -= gone;
-    return piece;
-}
-
-static void bad_files(const char *what)
-{
-    printf("wrong: the files cannot be used after text %lu: %s\n", texts, what);
-    exit(1);
-}
-
-/* The last number of a line that starts with `word`, or -1. */
-static long last_number(struct bytes line, const char *word)
-{
-    char number[16];
-    size_t len = strlen(word), from = line.len;
-    if (line.len < len || memcmp(line.at, word, len) != 0)
-        return -1;
-    while (from > 0 && line.at[from - 1] != '\t')
-        from--;
-    snprintf(number, sizeof number, "%.*s", (int)(line.len - from), (const char *)line.at + from);
-    return strtol(number, NULL, 10);
-}
-
-/* Takes the next answer off: one `bad` line, or a head line and as many lines as it says. */
-static struct answer take_answer(struct bytes *rest)
-{
-    struct answer want = { 0, { rest->at, 0 } };
-    if (rest->len == 0)
-        bad_files("there are fewer answers than texts");
-    struct bytes head = take_until(rest, '\n');
-    long number = last_number(head, "bad\t"), lines = last_number(head, "order\t");
-    if (number > 0) {
-        want.number = (unsigned)number;
-        return want;
-    }
-    if (lines < 0 && (lines = last_number(head, "core\t")) < 0)
-        bad_files("this is no answer");
-    while (lines-- > 0)
-        take_until(rest, '\n');
-    want.listing.len = (size_t)(rest->at - want.listing.at);
+    struct bytes rest = written;
+    long number = last_number(take_until(&rest, '\n'), "bad\t");
+    struct answer want = { number > 0 ? (unsigned)number : 0, { written.at, number > 0 ? 0 : written.len } };
     return want;
+}
+
+/* A full set, with every buffer length. */
+static void call_full_order(void)
+{
+    struct pair made = full_order();
+    part = "full order,";
+    if (made.answer.len != 885)
+        wrong(made.text, 0, 0, "the made listing should have 885 bytes");
+    call_all(made.text, answer_of(made.answer));
+}
+
+/* A full set whose calls take longer, with a few lengths. */
+static void call_full_core(void)
+{
+    struct pair made = full_core();
+    struct answer want = answer_of(made.answer);
+    part = "full core,";
+    if (want.listing.len != 592)
+        wrong(made.text, 0, 0, "the made listing should have 592 bytes");
+    for (size_t out_len = 590; out_len <= 594; out_len++)
+        call_both(made.text, want, out_len);
+    call_both(made.text, want, 0);
+    call_both(made.text, want, ORDERS_LISTING_MAX);
 }
 
 int main(int argc, char **argv)
@@ -445,25 +349,19 @@ int main(int argc, char **argv)
     signal(SIGBUS, touched);
     text_region = region();
     out_region = region();
-    struct bytes stored = load(argv[1]), answers = load(argv[2]);
-    const uint8_t *stored_at = stored.at, *answers_at = answers.at, *end = stored.at + stored.len;
-    int more = 1;
-    while (more) {
-        struct bytes text = take_until(&stored, '\f');
-        struct answer want = take_answer(&answers);
-        if (text.len > REGION)
-            bad_files("the text is too long for this test");
-        more = text.at + text.len < end;
+    struct store stored = open_store(argv[1], argv[2]);
+    while (stored.more) {
+        struct pair next = next_pair(&stored);
         texts++;
-        call_all(text, want);
-        call_damaged(text);
+        if (next.text.len > REGION) {
+            fprintf(stderr, "text %lu is too long for this test\n", texts);
+            return 2;
+        }
+        call_all(next.text, answer_of(next.answer));
+        call_damaged(next.text);
     }
-    if (answers.len > 0)
-        bad_files("there are more answers than texts");
-    call_longest_order();
-    call_longest_core();
-    free((void *)stored_at);
-    free((void *)answers_at);
+    call_full_order();
+    call_full_core();
     printf("buffers: %lu texts, %lu calls, %lu wrong\n", texts, calls, wrongs);
     return wrongs > 0;
 }

@@ -1,19 +1,19 @@
 -- Document 01: what a text gets, from the C call and from the program `orders`. Assumes nothing.
-use mathlib.Core.List.{List, _∷_, [], _++_}
+use mathlib.Core.List.{List, _∷_, []}
 use Prim.Native.Nat.{ℕ, _+_}
 use lib.Dec.{eqb}
 use lib.ListN.{length}
 use Rattle.sets.specs.Choice.{pick}
-use Rattle.decimal.specs.Decimal.{tab, feed, field}
-use Rattle.text.specs.declared.Reading.{Reading}
-use Rattle.text.specs.Text.{reading}
-use Rattle.verdict.specs.Verdict.{solving}
+use Rattle.lines.specs.Decimal.{tab}
+use Rattle.lines.specs.Line as written
+use Rattle.text.specs.Text.{Read, reading}
+use Rattle.verdict.specs.Verdict.{deciding}
 use Rattle.listing.specs.Listing.{Outcome, refused, shown, outcome}
 use Rattle.answer.specs.declared.Answered.{Answered}
 
 -- a text that is read is solved and listed; one that is refused is refused by its number
-abbrev pub outcomeOf : Reading → Outcome
-outcomeOf r = pick (eqb (r .refusal) 0) (outcome (solving (r .set))) (refused (r .refusal))
+abbrev pub outcomeOf : Read → Outcome
+outcomeOf r = pick (eqb (r .refusal) 0) (outcome (r .lists) (deciding (r .lists))) (refused (r .refusal))
 
 abbrev pub answerTo : List ℕ → Outcome
 answerTo text = outcomeOf (reading text)
@@ -39,7 +39,7 @@ abbrev pub bad : List ℕ
 bad = 98 ∷ 97 ∷ 100 ∷ tab ∷ []
 
 abbrev pub badLine : ℕ → ℕ → List ℕ
-badLine line k = bad ++ field line tab ++ field k feed
+badLine line k = written.line bad (line ∷ k ∷ [])
 
 abbrev pub printed : ℕ → Outcome → List ℕ
 printed line (refused k) = badLine line k
@@ -47,3 +47,7 @@ printed line (shown bytes) = bytes
 
 unfoldable pub report : List ℕ → List ℕ
 report text = printed (lineOf text) (answerTo text)
+
+-- a `bad` line with two numbers of at most 20 digits
+abbrev pub maxBad : ℕ
+maxBad = 46

@@ -1,92 +1,101 @@
 -- Laws of answering a text: one for each way out. Assumes nothing.
 use mathlib.Core.Path.{_≡_, refl, sym, ap, subst, _∙_}
-use mathlib.Core.List.{List}
-use Prim.Native.Nat.{ℕ, _+_, _≤_}
+use mathlib.Core.List.{List, [], _∷_, _++_, flatMap}
+use Prim.Native.Nat.{ℕ, _+_, _^_, _≤_, _<_}
 use native.Mathlib.Omega.{arith}
-use lib.ListN.{length, take}
+use lib.ListN.{length, take, length-append}
 use borrow.Author.Tests.{eq-eqb, ne-eqb}
 use Rattle.sets.specs.Onto.{onto, front-count}
-use Rattle.taskset.specs.declared.TaskSet.{TaskSet}
-use Rattle.text.specs.declared.Reading.{Reading}
-use Rattle.text.specs.Text.{reading}
-use Rattle.verdict.specs.Verdict.{solving}
-use Rattle.listing.specs.declared.Listed.{Listed}
-use Rattle.listing.specs.Listing.{listing, Outcome, refused, shown, outcome, fitted, listed, bufferAfter}
-use Rattle.listing.specs.Writing.{Lists}
-use Rattle.listing.specs.Short.{maxListing}
+use Rattle.lines.specs.Decimal.{tab}
+use Rattle.lines.specs.LineWriting.{few-digits, field-long, tabbed, line-long}
+use Rattle.taskset.specs.Model.{Lists}
+use Rattle.text.specs.Text.{Read, reading}
+use Rattle.verdict.specs.declared.Verdict.{Verdict}
+use Rattle.verdict.specs.Verdict.{deciding}
+use Rattle.listing.specs.declared.Shown.{Shown}
+use Rattle.listing.specs.Listing.{listing, Outcome, refused, shown, outcome, fitted, shownAs, bufferAfter, maxListing}
 use Rattle.answer.specs.declared.Answered.{Answered}
-use Rattle.answer.specs.Answer.{outcomeOf, answerTo, lineOf, answered, hostNumber, badLine, printed, report}
-use Rattle.answer.specs.Host.{replayed, HostGets}
+use Rattle.answer.specs.Answer.{outcomeOf, answerTo, lineOf, answered, hostNumber, bad, badLine, printed, report, maxBad}
+use Rattle.answer.specs.Host.{heardIn, HostGets}
 use Rattle.answer.specs.Replays.{Kind, refusal, verdict, fitted-kind, answer-short, answer-fits, host-gets}
 
--- a `bad` line with two numbers of at most 20 digits
-abbrev pub maxBad : ℕ
-maxBad = 46
+-- a `bad` line is short
+pub bad-short : (line k : ℕ) → line < 2 ^ 64 → k < 2 ^ 64 → length (badLine line k) ≤ maxBad
+unfolding flatMap
+bad-short line k h g =
+    omega (
+      arith,
+      line-long bad (line ∷ k ∷ []) (omega arith),
+      length-append (tabbed line) (tabbed k ++ []),
+      length-append (tabbed k) [],
+      field-long line tab,
+      field-long k tab,
+      few-digits line refl h,
+      few-digits k refl g,
+    )
 
 -- ---- answered
 
--- what answering says and leaves, for what was read; and for a text
-abbrev AnswersRead : Reading → List ℕ → Answered → List ℕ → Type 0
-AnswersRead r buffer a after =
-    let o = fitted (length buffer) (outcomeOf r) in
-    (a ≡ answered (r .line) o) × (after ≡ bufferAfter o buffer)
-
+-- what answering a text says and leaves
 abbrev pub Answers : List ℕ → List ℕ → Answered → List ℕ → Type 0
-Answers text = AnswersRead (reading text)
+Answers text buffer a xs =
+    let o = fitted (length buffer) (answerTo text) in
+    (a ≡ answered (lineOf text) o) × (xs ≡ bufferAfter o buffer)
 
--- what listing answers, with the line
-abbrev pub withLine : ℕ → Listed → Answered
-withLine line l = record { refusal = l .refusal; line = line; count = l .count }
+-- what showing answers, with the line
+abbrev withLine : ℕ → Shown → Answered
+withLine line s = record { refusal = s .refusal; line = line; count = s .count }
 
-lined : (line : ℕ) (s : TaskSet) (o : Outcome) → withLine line (listed s o) ≡ answered line o
-lined line s (refused k) = refl
-lined line s (shown bytes) = refl
+lined : (line : ℕ) (o : Outcome) → withLine line (shownAs o) ≡ answered line o
+lined line (refused k) = refl
+lined line (shown bytes) = refl
 
-module _ (text buffer : List ℕ) (r : Reading) (is : r ≡ reading text) where
-  by-reading : (a : Answered) (after : List ℕ) → AnswersRead r buffer a after → Answers text buffer a after
-  by-reading a after = subst (λ (q : Reading). AnswersRead q buffer a after) is
-
+module _ (text buffer : List ℕ) where
   -- the text is refused
-  pub answer-refused : (r .refusal ≡ 0 → ⊥)
-      → Answers text buffer (record { refusal = r .refusal; line = r .line; count = 0 }) buffer
-  answer-refused bad = by-reading _ _ (rw (ne-eqb (r .refusal) 0 bad) (refl, refl))
+  pub answer-refused : (k line : ℕ) → k ≡ reading text .refusal → line ≡ reading text .line → (k ≡ 0 → ⊥)
+      → Answers text buffer (record { refusal = k; line = line; count = 0 }) buffer
+  answer-refused k line e f nonzero = rw (sym e, sym f, ne-eqb k 0 nonzero) (refl, refl)
 
-  -- it is read, and its set is listed
-  pub answer-listed : r .refusal ≡ 0 → (l : Listed) (after : List ℕ)
-      → Lists (r .set) buffer (outcome (solving (r .set))) l after → Answers text buffer (withLine (r .line) l) after
-  answer-listed good l after h =
-      let o = fitted (length buffer) (outcome (solving (r .set))) in
-      by-reading _ _ (rw (eq-eqb (r .refusal) 0 good) (ap (withLine (r .line)) (h .0) ∙ lined (r .line) (r .set) o, h .1))
+  -- it is read, and the verdict on its lists is shown
+  pub answer-shown : reading text .refusal ≡ 0 → (l : Lists) → l ≡ reading text .lists → (line : ℕ) → line ≡ reading text .line
+      → (v : Verdict) → v ≡ deciding l → (s : Shown) (xs : List ℕ) → let o = fitted (length buffer) (outcome l v) in
+      (s ≡ shownAs o) × (xs ≡ bufferAfter o buffer) → Answers text buffer (record { refusal = s .refusal; line = line; count = s .count }) xs
+  answer-shown good l is line at v decided s xs h =
+      let same : outcome l v ≡ answerTo text =
+      ap (outcome l) decided ∙ ap (λ (m : Lists). outcome m (deciding m)) is ∙ rw (eq-eqb (reading text .refusal) 0 good) in
+      let fit = fitted (length buffer) (outcome l v) in
+      subst (λ (o : Outcome). let p = fitted (length buffer) o in (withLine line s ≡ answered (lineOf text) p) × (xs ≡ bufferAfter p buffer)) same
+      (ap (withLine line) (h .0) ∙ lined line fit ∙ ap (λ (n : ℕ). answered n fit) at, h .1)
 
 -- ---- printed, or handed to a host
 
 -- what is printed, with how much of the buffer it is
 abbrev pub Reports : List ℕ → List ℕ → ℕ → List ℕ → Type 0
-Reports text buffer n after =
-    (n ≡ length (report text)) × ((after ≡ onto (report text) buffer) × ((n ≤ length after) × (n ≡ length (take n after))))
+Reports text buffer n xs =
+    (n ≡ length (report text)) × ((xs ≡ onto (report text) buffer) × ((n ≤ length xs) × (n ≡ length (take n xs))))
 
 -- what the C call says and leaves
 abbrev pub Hosts : List ℕ → List ℕ → ℕ → List ℕ → Type 0
-Hosts text buffer r after =
+Hosts text buffer r xs =
     let o = fitted (length buffer) (answerTo text) in
-    (r ≡ hostNumber o) × ((after ≡ bufferAfter o buffer) × HostGets text r buffer after)
+    (r ≡ hostNumber o) × ((xs ≡ bufferAfter o buffer) × HostGets text r buffer xs)
 
-module _ (text buffer : List ℕ) (a : Answered) (after : List ℕ) (said : Answers text buffer a after) where
+module _ (text buffer : List ℕ) (a : Answered) (xs : List ℕ) (said : Answers text buffer a xs) where
   -- the outcome in this buffer
   abbrev fit : Outcome
   fit = fitted (length buffer) (answerTo text)
 
   -- it is the refusal that is not 0
   is-refused : (a .refusal ≡ 0 → ⊥) → (fit ≡ refused (a .refusal)) × (a .line ≡ lineOf text)
-  is-refused bad = go fit (fitted-kind text (length buffer)) (said .0)
+  is-refused nonzero = go fit (fitted-kind text (length buffer)) (said .0)
     where
       go : (o : Outcome) → Kind text o → a ≡ answered (lineOf text) o → (o ≡ refused (a .refusal)) × (a .line ≡ lineOf text)
       go o (refusal k some few) e = rw e (refl, refl)
-      go o (verdict some) e = absurd (bad (rw e))
+      go o (verdict some) e = absurd (nonzero (rw e))
 
   -- or else the listing, which is short
   abbrev bytes : List ℕ
-  bytes = listing (replayed text)
+  bytes = listing (heardIn text) (deciding (heardIn text))
 
   is-shown : a .refusal ≡ 0 → (fit ≡ shown bytes) × (a .count ≡ length bytes) × (a .count ≤ maxListing)
   is-shown good = go fit (fitted-kind text (length buffer)) (said .0)
@@ -109,34 +118,34 @@ module _ (text buffer : List ℕ) (a : Answered) (after : List ℕ) (said : Answ
     reports n xs out e f g = rw e (f, (g, front-count out buffer xs n f g))
 
     -- a listing stands in the buffer
-    pub report-shown : a .refusal ≡ 0 → Reports text buffer (a .count) after
+    pub report-shown : a .refusal ≡ 0 → Reports text buffer (a .count) xs
     report-shown good =
         let (is, count, _) = is-shown good in
-        reports (a .count) after bytes (fit-printed _ is) count (said .1 ∙ rw is)
+        reports (a .count) xs bytes (fit-printed _ is) count (said .1 ∙ rw is)
 
     -- of a refusal nothing does yet, and its line goes there
-    pub report-bad : (a .refusal ≡ 0 → ⊥) → (n : ℕ) (xs : List ℕ)
-        → (n ≡ length (badLine (a .line) (a .refusal))) × (xs ≡ onto (badLine (a .line) (a .refusal)) after)
-        → Reports text buffer n xs
-    report-bad bad n xs h =
-        let (is, line) = is-refused bad in
+    pub report-bad : (a .refusal ≡ 0 → ⊥) → (n : ℕ) (ys : List ℕ)
+        → (n ≡ length (badLine (a .line) (a .refusal))) × (ys ≡ onto (badLine (a .line) (a .refusal)) xs)
+        → Reports text buffer n ys
+    report-bad nonzero n ys h =
+        let (is, line) = is-refused nonzero in
         let out = badLine (a .line) (a .refusal) in
         let is-bad : report text ≡ out = fit-printed _ is ∙ ap (λ (l : ℕ). badLine l (a .refusal)) (sym line) in
-        let kept : after ≡ buffer = said .1 ∙ rw is in
-        reports n xs out is-bad (h .0) (h .1 ∙ ap (onto out) kept)
+        let kept : xs ≡ buffer = said .1 ∙ rw is in
+        reports n ys out is-bad (h .0) (h .1 ∙ ap (onto out) kept)
 
   -- ---- for a host
 
-  hosts : (r : ℕ) → r ≡ hostNumber fit → Hosts text buffer r after
-  hosts r e = (e, (said .1, host-gets text buffer after r e (said .1)))
+  hosts : (r : ℕ) → r ≡ hostNumber fit → Hosts text buffer r xs
+  hosts r e = (e, (said .1, host-gets text buffer xs r e (said .1)))
 
-  pub host-refused : (a .refusal ≡ 0 → ⊥) → Hosts text buffer (a .refusal) after
-  host-refused bad = hosts (a .refusal) (ap hostNumber (sym (is-refused bad .0)))
+  pub host-refused : (a .refusal ≡ 0 → ⊥) → Hosts text buffer (a .refusal) xs
+  host-refused nonzero = hosts (a .refusal) (ap hostNumber (sym (is-refused nonzero .0)))
 
   pub host-short : a .refusal ≡ 0 → a .count ≤ maxListing
   host-short good = is-shown good .2
 
-  pub host-listed : a .refusal ≡ 0 → Hosts text buffer (100 + a .count) after
+  pub host-listed : a .refusal ≡ 0 → Hosts text buffer (100 + a .count) xs
   host-listed good =
       let (is, count, _) = is-shown good in
       hosts (100 + a .count) (ap (λ (n : ℕ). 100 + n) count ∙ ap hostNumber (sym is))

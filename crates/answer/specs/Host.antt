@@ -4,24 +4,26 @@ use mathlib.Core.List.{List}
 use Prim.Native.Nat.{ℕ, _+_, _≤_}
 use lib.ListN.{length}
 use Rattle.sets.specs.Onto.{onto}
-use Rattle.taskset.specs.Adding.{freshSet}
-use Rattle.taskset.specs.Calls.{run, noLists, heard}
+use Rattle.taskset.specs.Model.{Lists, noLists, heard}
+use Rattle.taskset.specs.Adding.{freshSet, run}
 use Rattle.text.specs.Text.{callsAsked}
-use Rattle.verdict.specs.declared.Solved.{Solved}
+use Rattle.verdict.specs.declared.Verdict.{Verdict}
 use Rattle.verdict.specs.Verdict.{solving}
-use Rattle.verdict.specs.Demand3.{Demand3, Responses}
+use Rattle.verdict.specs.Correct.{Correct}
 use Rattle.listing.specs.Listing.{listing}
 
--- the verdict on the calls that a text's lines ask
-abbrev pub replayed : List ℕ → Solved
-replayed text = solving (run freshSet (callsAsked text))
+-- the lists that the reference model hears from a text's lines, and the verdict on the calls that they ask
+abbrev pub heardIn : List ℕ → Lists
+heardIn text = heard noLists (callsAsked text)
+
+abbrev pub verdictFor : List ℕ → Verdict
+verdictFor text = solving (run freshSet (callsAsked text)) .verdict
 
 -- where a host gets 100 or more, it is a listing: of that verdict, whole, with the other bytes as they were; and that
--- verdict is what demand 3 says of the lists that the reference model hears
+-- verdict is correct about those lists, as demand 3 has it
 unfoldable pub HostGets : List ℕ → ℕ → List ℕ → List ℕ → Type 0
-HostGets text r before after =
+HostGets text r was is =
     100 ≤ r
-    → (r ≡ 100 + length (listing (replayed text)))
-    × (after ≡ onto (listing (replayed text)) before)
-    × Demand3 (heard noLists (callsAsked text)) (replayed text)
-    × Responses (heard noLists (callsAsked text)) (replayed text)
+    → (r ≡ 100 + length (listing (heardIn text) (verdictFor text)))
+    × (is ≡ onto (listing (heardIn text) (verdictFor text)) was)
+    × Correct (heardIn text) (verdictFor text)

@@ -4,15 +4,16 @@ ghost use mathlib.Core.Path.{_≡_};
 ghost use Prim.Native.Nat.{_≤_};
 ghost use lib.ListN.{length, take};
 ghost use Rattle.sets.specs.Onto.{onto};
-ghost use Rattle.listing.specs.Listing.{fitted, bufferAfter};
-ghost use Rattle.listing.specs.Short.{maxListing};
-ghost use Rattle.answer.specs.Answer.{answerTo, lineOf, answered, badLine, report};
-ghost use Rattle.answer.specs.Answering.{maxBad};
-use decimal::FEED;
-use decimal::TAB;
-use decimal::write;
-use listing::list;
-use text::read;
+ghost use Rattle.listing.specs.Listing.{fitted, bufferAfter, maxListing};
+ghost use Rattle.answer.specs.Answer.{answerTo, lineOf, answered, badLine, report, maxBad};
+use lines::put_line;
+use listing::show;
+use taskset::MAX_RULE_WORDS;
+use taskset::MAX_TASK_WORDS;
+use taskset::RULE_WORDS;
+use taskset::TASK_WORDS;
+use text::read_words;
+use verdict::decide;
 
 // A refusal's number or 0, its line, which is 0 unless it is a line's own, and the listing's byte count.
 pub struct Answered {
@@ -21,14 +22,16 @@ pub struct Answered {
     pub count: usize,
 }
 
-// Reads a text, solves the set and lists the verdict: refusals 8, the lines', 13, then 9.
+// Reads a text into words, decides, and shows the verdict: refusals 8, the lines', 13, then 9.
 pub fn answer(text: &[u8], out: &mut [u8]) -> Answered
     ensures { λ r. ⌜ r ≡ answered (lineOf (now (text .entry))) (fitted (length (now (out .entry))) (answerTo (now (text .entry)))) ⌝ }
     ensures bytes { λ r. ⌜ now (out .exit) ≡ bufferAfter (fitted (length (now (out .entry))) (answerTo (now (text .entry)))) (now (out .entry)) ⌝ }
 {
-    let reading = read(text);
-    let refusal = reading.refusal;
-    let line = reading.line;
+    let mut tasks = [0u64; MAX_TASK_WORDS];
+    let mut list = [0u64; MAX_RULE_WORDS];
+    let read = read_words(text, &mut tasks, &mut list);
+    let refusal = read.refusal;
+    let line = read.line;
     if refusal != 0 {
         return Answered {
             refusal,
@@ -36,12 +39,14 @@ pub fn answer(text: &[u8], out: &mut [u8]) -> Answered
             count: 0,
         };
     }
-    let set = reading.set;
-    let listed = list(set, out);
+    let rows = &tasks[..TASK_WORDS * read.ntasks];
+    let rules = &list[..RULE_WORDS * read.nrules];
+    let verdict = decide(rows, rules);
+    let shown = show(verdict, rows, rules, out);
     Answered {
-        refusal: listed.refusal,
+        refusal: shown.refusal,
         line,
-        count: listed.count,
+        count: shown.count,
     }
 }
 
@@ -51,10 +56,8 @@ fn write_bad(out: &mut [u8], line: u64, refusal: u64) -> usize
     ensures { λ r. ⌜ r ≡ length (badLine line refusal) ⌝ }
     ensures bytes { λ r. ⌜ now (out .exit) ≡ onto (badLine line refusal) (now (out .entry)) ⌝ }
 {
-    let mut at = bytes::copy(b"bad\t", out);
-    at += write(&mut out[at..], line, TAB);
-    at += write(&mut out[at..], refusal, FEED);
-    at
+    let numbers = [line, refusal];
+    put_line(out, b"bad\t", &numbers)
 }
 
 // Writes what the program `orders` writes for a text: the listing, or one line `bad`, line, number.

@@ -1,8 +1,9 @@
 pub mod Orders
 pub mod Audsley
+pub mod Search
 pub mod Decision
-pub mod Preemptive
-pub mod Levels
-pub mod Steps
+pub mod Ready
 pub mod Filling
-pub mod Settling
+pub mod Preemptive
+pub mod Hints
+pub mod Going

@@ -1,36 +1,28 @@
 -- The preemptive test of document 01 as an instance: a task passes when its response lies within its deadline. Assumes nothing.
 use mathlib.Core.Path.{_≡_, refl, sym, subst}
-use mathlib.Core.Bool.{Bool, true, false}
+use mathlib.Core.Bool.{Bool}
 use mathlib.Core.List.{List}
 use mathlib.Core.Logic.{_↔_}
 use Prim.Native.Nat.{ℕ}
+use native.Mathlib.Nat.{not-suc-le-zero}
 use native.Mathlib.Omega.{arith}
 use lib.Dec.{T}
 use lib.ListN.{length}
 use Rattle.sets.specs.Bounded.{Subset}
 use Rattle.taskset.specs.declared.Task.{Task}
 use Rattle.taskset.specs.declared.Rule.{Rule}
-use Rattle.taskset.specs.Calls.{Lists}
-use Rattle.taskset.specs.Holding.{Sound}
+use Rattle.taskset.specs.Model.{Lists, taskAt, SoundTasks, Sound}
 use Rattle.response.specs.declared.Response.{Response}
 use Rattle.response.specs.declared.Response.the-variants.{Within, Late}
-use Rattle.response.specs.Equation.{taskAt, demand, SaysResponse, responseTime}
+use Rattle.response.specs.Equation.{demand, SaysResponse}
 use Rattle.response.specs.Agreement.{response-says}
 use Rattle.response.specs.Demand.{fewer-above}
+use Rattle.assignment.specs.declared.Search.{Search}
 use Rattle.assignment.specs.Orders.{Valid, MeetsDeadline, ValidOrder, SomeOrder}
-use Rattle.assignment.specs.Audsley.{Problem, feasible}
+use Rattle.assignment.specs.Audsley.{isWithin, passes, feasible, responseAt, problem, bare}
 use Rattle.assignment.specs.Decision.{Lawful, SomeValid, feasible-exactly, feasible-fewer}
-
--- the response of task i, searched for up to its deadline
-abbrev pub responseAt : List Task → ℕ → (ℕ → Bool) → Response
-responseAt tasks i above = responseTime tasks i above (taskAt tasks i .deadline)
-
-abbrev pub isWithin : Response → Bool
-isWithin (Within r) = true
-isWithin Late = false
-
-abbrev pub problem : Lists → Problem
-problem l = record { tasks = length (l .tasks); rules = l .rules; passes = λ i above. isWithin (responseAt (l .tasks) i above) }
+use Rattle.assignment.specs.Search.{Ended}
+use Rattle.assignment.specs.Filling.{ended-decides}
 
 -- ---- the test says what the words say
 
@@ -44,14 +36,14 @@ meets-exactly tasks i above =
     go (Within r) s = (λ t. (s .0, s .1, omega (arith, s .2, s .3)), λ m. tt)
     go Late s = (λ t. absurd t, λ m. omega (arith, s (m .0) (m .1 .low) (m .1 .met), m .2))
 
-meets-other : {n : ℕ} {rules : List Rule} {M N : ℕ → (ℕ → Bool) → Type 0} {inPlay : ℕ → Bool} {order : List ℕ}
-    → ((i : ℕ) (above : ℕ → Bool) → M i above → N i above) → Valid n rules M inPlay order → Valid n rules N inPlay order
+meets-other : {n : ℕ} {rules : List Rule} {M N : ℕ → (ℕ → Bool) → Type 0} {active : ℕ → Bool} {order : List ℕ}
+    → ((i : ℕ) (above : ℕ → Bool) → M i above → N i above) → Valid n rules M active order → Valid n rules N active order
 meets-other change v = record { isOrder = v .isOrder; keeps = v .keeps; meets = λ i h. change i _ (v .meets i h) }
 
 -- so an order is valid by the one exactly when it is by the other
-pub valid-exactly : (l : Lists) (inPlay : ℕ → Bool) (order : List ℕ)
-    → Valid (length (l .tasks)) (l .rules) (λ i above. T (problem l .passes i above)) inPlay order ↔ ValidOrder l inPlay order
-valid-exactly l inPlay order =
+pub valid-exactly : (l : Lists) (active : ℕ → Bool) (order : List ℕ)
+    → Valid (length (l .tasks)) (l .rules) (λ i above. T (passes (problem l) i above)) active order ↔ ValidOrder l active order
+valid-exactly l active order =
     (meets-other (λ i above. meets-exactly (l .tasks) i above .0), meets-other (λ i above. meets-exactly (l .tasks) i above .1))
 
 -- ---- and fewer tasks above can't break it
@@ -71,16 +63,26 @@ lawful l s =
         subst (λ (a : Response). T (isWithin a)) (sym (q .1)) tt
     go i less above sub Late e t = absurd t
 
+-- also without rules
+pub bare-lawful : {tasks : List Task} → SoundTasks tasks → Lawful (bare tasks)
+bare-lawful ok = lawful _ (record { tasks = ok; few-rules = omega arith; indices = λ k h. absurd (not-suc-le-zero h) })
+
 -- ---- so the assignment decides whether a valid order exists
 
-module _ (l : Lists) (sound : Sound l) (inPlay : ℕ → Bool) where
-  some-valid : SomeValid (problem l) inPlay ↔ SomeOrder l inPlay
-  some-valid = (λ s. (s .0, valid-exactly l inPlay (s .0) .0 (s .1)), λ s. (s .0, valid-exactly l inPlay (s .0) .1 (s .1)))
+module _ (l : Lists) (sound : Sound l) (active : ℕ → Bool) where
+  some-valid : SomeValid (problem l) active ↔ SomeOrder l active
+  some-valid = (λ s. (s .0, valid-exactly l active (s .0) .0 (s .1)), λ s. (s .0, valid-exactly l active (s .0) .1 (s .1)))
 
-  pub feasible-order : T (feasible (problem l) inPlay) ↔ SomeOrder l inPlay
+  pub feasible-order : T (feasible (problem l) active) ↔ SomeOrder l active
   feasible-order =
-      let d = feasible-exactly (problem l) inPlay (lawful l sound) in
+      let d = feasible-exactly (problem l) active (lawful l sound) in
       (λ t. some-valid .0 (d .0 t), λ s. d .1 (some-valid .1 s))
+
+  -- so does a search that has ended: every level is filled exactly when there is one
+  pub ended-order : (r : Search) → Ended (problem l) active r → (r .free ≡ 0) ↔ SomeOrder l active
+  ended-order r ended =
+      let d = ended-decides (problem l) active (lawful l sound) r ended in
+      (λ z. feasible-order .0 (d .0 z), λ o. d .1 (feasible-order .1 o))
 
 -- and fewer rules keep that there is one
 pub less-feasible : (l : Lists) → Sound l → (less more : ℕ → Bool) → Subset (length (l .rules)) less more

@@ -1,34 +1,28 @@
-// The revised Audsley assignment: levels filled from the lowest upward, for any rules in play.
+// The revised Audsley assignment: levels filled from the lowest upward, for any active rules.
 
 ghost use mathlib.Core.Path.{_≡_};
-ghost use mathlib.Core.Bool.{true};
-ghost use mathlib.Core.List.{[]};
+ghost use mathlib.Core.Bool.{false};
 ghost use mathlib.Core.Logic.{_↔_};
 ghost use Prim.Native.Nat.{_≤_, _<_};
-ghost use lib.Dec.{T};
-ghost use lib.ListN.{set, length};
+ghost use lib.ListN.{length};
 ghost use Rattle.sets.specs.Bounded.{without};
 ghost use Rattle.sets.specs.Marks.{first, marked};
-ghost use Rattle.taskset.specs.Rows.{maxTasks};
-ghost use Rattle.taskset.specs.Adding.{rows, rules, isMade};
-ghost use Rattle.taskset.specs.Calls.{lists};
-ghost use Rattle.response.specs.Words.{tasksIn, Rows};
-ghost use Rattle.assignment.specs.Orders.{SomeOrder};
-ghost use Rattle.assignment.specs.Audsley.{ready, assign, feasible};
-ghost use Rattle.assignment.specs.Preemptive.{responseAt, problem};
-ghost use Rattle.assignment.specs.Levels.{offer, chosen, Stands, Resumes};
-ghost use Rattle.assignment.specs.Settling.{AnyOf, leftPasses, passing, Known, Meets, Held};
-use response::MAX_WORDS;
-use response::ROW;
+ghost use Rattle.taskset.specs.Refusals.{maxTasks};
+ghost use Rattle.taskset.specs.Model.{SoundTasks, Sound};
+ghost use Rattle.taskset.specs.Words.{tasksIn, rulesIn, listsIn};
+ghost use Rattle.assignment.specs.Orders.{noRule, SomeOrder};
+ghost use Rattle.assignment.specs.Audsley.{passes, ready, assign, responseAt, problem, bare};
+ghost use Rattle.assignment.specs.Search.{Indexed, candidate, chosen, AnyOf, lowestFree, Searched, Ended, HoldsLevels, Assigns, Known, Helps};
 use response::Response;
-use response::flatten;
 use response::response_time;
-use response::row;
 use taskset::MAX_RULES;
 use taskset::MAX_TASKS;
 use taskset::PriorityLevel;
+use taskset::RULE_WORDS;
+use taskset::TASK_WORDS;
 use taskset::TaskIndex;
-use taskset::TaskSet;
+use taskset::rule_in;
+use taskset::task_in;
 
 // Who takes a level, with its response there.
 pub enum Choice {
@@ -36,25 +30,21 @@ pub enum Choice {
     Nobody,
 }
 
-// A task's index and its response for each priority level, highest first.
-pub struct Levels {
+// A search: a task's index and its response for each priority level, highest first, of which the first `free` are not filled
+// yet; and the tasks left without a level.
+pub struct Search {
     pub order: [TaskIndex; MAX_TASKS],
     pub responses: [u64; MAX_TASKS],
-}
-
-// A search: the levels, of which the first `free` are not filled yet, and the tasks left without one.
-pub struct Assignment {
-    pub levels: Levels,
     pub free: usize,
     pub left: [bool; MAX_TASKS],
 }
 
-// Where a search stands that keeps no responses: the order, of which the first `free` levels are not filled yet, and the tasks
-// left without one.
-pub struct Standing {
-    pub order: [TaskIndex; MAX_TASKS],
-    pub free: usize,
-    pub left: [bool; MAX_TASKS],
+// What spares a search responses, where it is given: tasks known to meet their deadline with the others left above them, and
+// another search, whose responses are not read. The levels then go to any task that may take them.
+pub struct Hints {
+    pub given: bool,
+    pub known: [bool; MAX_TASKS],
+    pub other: Search,
 }
 
 // Marks for the first n tasks.
@@ -71,35 +61,32 @@ fn first(n: usize) -> [bool; MAX_TASKS]
     marks
 }
 
-// The tasks left for which every task that a rule in play puts below them has a level.
-fn ready(set: TaskSet, marks: [bool; MAX_RULES], left: [bool; MAX_TASKS]) -> [bool; MAX_TASKS]
-    requires { ⌜ isMade set ≡ true ⌝ }
-    ensures { λ r. ⌜ marked r ≡ ready (rules set) (marked marks) (marked left) ⌝ }
+// The tasks left for which every task that an active rule puts below them has a level.
+fn ready(rules: &[u64], active: [bool; MAX_RULES], left: [bool; MAX_TASKS]) -> [bool; MAX_TASKS]
+    requires { ⌜ Indexed (rulesIn (now rules)) ⌝ }
+    ensures { λ r. ⌜ marked r ≡ ready (rulesIn (now (rules .entry))) (marked active) (marked left) ⌝ }
 {
-    let m = set.nrules;
-    if m == 0 {
-        return left;
-    }
+    let m = rules.len() / RULE_WORDS;
     let mut ready = left;
     let mut k = 0;
     while k < m {
-        let rule = set.rules[k];
+        let rule = rule_in(rules, k);
         let higher = rule.higher.0;
         let lower = rule.lower.0;
-        ready[higher] = ready[higher] & !(marks[k] & left[lower]);
+        ready[higher] = ready[higher] & !(active[k] & left[lower]);
         k += 1;
     }
     ready
 }
 
 // The response of a task with the others that are left above it.
-fn bid(rows: &[u64], left: [bool; MAX_TASKS], task: TaskIndex) -> Response
-    requires { ⌜ Rows (tasksIn (now rows)) ⌝ }
+fn level_response(rows: &[u64], left: [bool; MAX_TASKS], task: TaskIndex) -> Response
+    requires { ⌜ SoundTasks (tasksIn (now rows)) ⌝ }
     requires { ⌜ task .0 < length (tasksIn (now rows)) ⌝ }
     ensures { λ r. ⌜ r ≡ responseAt (tasksIn (now (rows .entry))) (task .0) (without (marked left) (task .0)) ⌝ }
 {
     let i = task.0;
-    let own = row(rows, i);
+    let own = task_in(rows, i);
     let mut above = left;
     above[i] = false;
     response_time(rows, task, above, own.deadline)
@@ -107,15 +94,17 @@ fn bid(rows: &[u64], left: [bool; MAX_TASKS], task: TaskIndex) -> Response
 
 // Of the ready tasks that meet their deadline, the one with the greatest index takes the level.
 fn choose(rows: &[u64], ready: [bool; MAX_TASKS], left: [bool; MAX_TASKS]) -> Choice
-    requires { ⌜ Rows (tasksIn (now rows)) ⌝ }
-    ensures { λ r. ⌜ r ≡ chosen (length (tasksIn (now (rows .entry)))) (offer (tasksIn (now (rows .entry))) (marked ready) (marked left)) ⌝ }
+    requires { ⌜ SoundTasks (tasksIn (now rows)) ⌝ }
+    ensures { λ r. ⌜ r ≡ chosen (length (tasksIn (now (rows .entry))))
+        (candidate (responseAt (tasksIn (now (rows .entry)))) (marked ready) (marked left)) ⌝ }
 {
-    let mut i = rows.len() / ROW;
+    let n = rows.len() / TASK_WORDS;
+    let mut i = n;
     while 0 < i {
         i -= 1;
         if ready[i] {
             let task = TaskIndex(i);
-            if let Response::Within(response) = bid(rows, left, task) {
+            if let Response::Within(response) = level_response(rows, left, task) {
                 return Choice::Takes(task, response);
             }
         }
@@ -123,114 +112,20 @@ fn choose(rows: &[u64], ready: [bool; MAX_TASKS], left: [bool; MAX_TASKS]) -> Ch
     Choice::Nobody
 }
 
-// One level filled.
-fn fill_level(levels: Levels, level: PriorityLevel, task: TaskIndex, response: u64) -> Levels
-    requires { ⌜ level .0 < maxTasks ⌝ }
-    ensures { λ r. ⌜ r ≡ record { order = set (levels .order) (level .0) task; responses = set (levels .responses) (level .0) response } ⌝ }
-{
-    let at = level.0;
-    let mut filled = levels;
-    filled.order[at] = task;
-    filled.responses[at] = response;
-    filled
-}
-
-// A search with no level filled.
-fn start(set: TaskSet) -> Assignment
-    requires { ⌜ isMade set ≡ true ⌝ }
-    ensures { λ r. ⌜ Stands (lists set) [] r ⌝ }
-{
-    let n = set.ntasks;
-    let levels = Levels {
-        order: [TaskIndex(0); MAX_TASKS],
-        responses: [0; MAX_TASKS],
-    };
-    Assignment {
-        levels,
-        free: n,
-        left: first(n),
-    }
-}
-
-// Goes on with a search until every level is filled or nobody may take the next.
-fn resume(set: TaskSet, marks: [bool; MAX_RULES], from: Assignment) -> Assignment
-    requires { ⌜ isMade set ≡ true ⌝ }
-    requires { ⌜ from .free ≤ set .ntasks ⌝ }
-    ensures { λ r. ⌜ Resumes (lists set) (marked marks) from r ⌝ }
-{
-    let mut levels = from.levels;
-    let mut free = from.free;
-    let mut left = from.left;
-    let mut words = [0u64; MAX_WORDS];
-    let n = flatten(set, &mut words);
-    while 0 < free {
-        let ready = ready(set, marks, left);
-        let Choice::Takes(task, response) = choose(&words[..n], ready, left) else {
-            return Assignment { levels, free, left };
-        };
-        free -= 1;
-        levels = fill_level(levels, PriorityLevel(free), task, response);
-        let i = task.0;
-        left[i] = false;
-    }
-    Assignment { levels, free, left }
-}
-
-// The search from the start, with the marked rules in play: every level is filled exactly when some order keeps those rules
-// and meets every deadline.
-pub fn trial(set: TaskSet, marks: [bool; MAX_RULES]) -> Assignment
-    requires { ⌜ isMade set ≡ true ⌝ }
-    ensures { λ r. ⌜ Stands (lists set) (assign (problem (lists set)) (marked marks)) r ⌝ }
-    ensures decides { λ r. ⌜ (r .free ≡ 0) ↔ SomeOrder (lists set) (marked marks) ⌝ }
-{
-    resume(set, marks, start(set))
-}
-
-// A task is left and meets its deadline with all the others left above it.
-fn passes(rows: &[u64], left: [bool; MAX_TASKS], task: TaskIndex) -> bool
-    requires { ⌜ Rows (tasksIn (now rows)) ⌝ }
-    requires { ⌜ task .0 < length (tasksIn (now rows)) ⌝ }
-    ensures { λ r. ⌜ r ≡ leftPasses (tasksIn (now (rows .entry))) (marked left) (task .0) ⌝ }
-{
-    let i = task.0;
-    if left[i] {
-        if let Response::Within(_) = bid(rows, left, task) {
-            return true;
-        }
-    }
-    false
-}
-
-// The tasks left that meet their deadline with all the others left above them.
-pub fn passing(set: TaskSet, left: [bool; MAX_TASKS]) -> [bool; MAX_TASKS]
-    requires { ⌜ isMade set ≡ true ⌝ }
-    ensures { λ r. ⌜ marked r ≡ passing (rows set) (marked left) ⌝ }
-{
-    let mut words = [0u64; MAX_WORDS];
-    let n = flatten(set, &mut words);
-    let count = set.ntasks;
-    let mut passing = [false; MAX_TASKS];
-    let mut i = 0;
-    while i < count {
-        passing[i] = passes(&words[..n], left, TaskIndex(i));
-        i += 1;
-    }
-    passing
-}
-
 // A ready task that meets its deadline at this level: of the tasks left, the one that is furthest down in another search; where
 // that one is not ready, the one of `choose`.
 fn choose_last(
     rows: &[u64],
     ready: [bool; MAX_TASKS],
-    other: Standing,
+    other: Search,
     left: [bool; MAX_TASKS],
 ) -> Choice
-    requires { ⌜ Rows (tasksIn (now rows)) ⌝ }
-    requires { ⌜ Meets (tasksIn (now rows)) other ⌝ }
-    ensures { λ r. ⌜ AnyOf (tasksIn (now (rows .entry))) (marked ready) (marked left) r ⌝ }
+    requires { ⌜ SoundTasks (tasksIn (now rows)) ⌝ }
+    requires { ⌜ Searched (bare (tasksIn (now rows))) noRule other ⌝ }
+    ensures { λ r. ⌜ AnyOf (length (tasksIn (now (rows .entry))))
+        (candidate (responseAt (tasksIn (now (rows .entry)))) (marked ready) (marked left)) r ⌝ }
 {
-    let mut level = rows.len() / ROW;
+    let mut level = rows.len() / TASK_WORDS;
     while other.free < level {
         level -= 1;
         let task = other.order[level];
@@ -250,15 +145,16 @@ fn choose_any(
     rows: &[u64],
     ready: [bool; MAX_TASKS],
     known: [bool; MAX_TASKS],
-    other: Standing,
+    other: Search,
     left: [bool; MAX_TASKS],
 ) -> Choice
-    requires { ⌜ Rows (tasksIn (now rows)) ⌝ }
-    requires { ⌜ Known (tasksIn (now rows)) (marked left) (marked known) ⌝ }
-    requires { ⌜ Meets (tasksIn (now rows)) other ⌝ }
-    ensures { λ r. ⌜ AnyOf (tasksIn (now (rows .entry))) (marked ready) (marked left) r ⌝ }
+    requires { ⌜ SoundTasks (tasksIn (now rows)) ⌝ }
+    requires { ⌜ Known (bare (tasksIn (now rows))) (marked left) (marked known) ⌝ }
+    requires { ⌜ Searched (bare (tasksIn (now rows))) noRule other ⌝ }
+    ensures { λ r. ⌜ AnyOf (length (tasksIn (now (rows .entry))))
+        (candidate (responseAt (tasksIn (now (rows .entry)))) (marked ready) (marked left)) r ⌝ }
 {
-    let mut j = rows.len() / ROW;
+    let mut j = rows.len() / TASK_WORDS;
     while 0 < j {
         j -= 1;
         if ready[j] & known[j] {
@@ -268,38 +164,106 @@ fn choose_any(
     choose_last(rows, ready, other, left)
 }
 
-// Goes on with a search, giving each level to any task that may take it: every level gets filled exactly when some order keeps
-// the rules in play and meets every deadline. What `other`, any search in this set, has filled spares responses.
-pub fn settle(
-    set: TaskSet,
-    marks: [bool; MAX_RULES],
-    known: [bool; MAX_TASKS],
-    other: Standing,
-    from: Standing,
-) -> Standing
-    requires { ⌜ isMade set ≡ true ⌝ }
-    requires { ⌜ Held (lists set) (marked marks) from ⌝ }
-    requires { ⌜ Known (rows set) (marked (from .left)) (marked known) ⌝ }
-    requires { ⌜ Meets (rows set) other ⌝ }
-    ensures { λ r. ⌜ Held (lists set) (marked marks) r ⌝ }
-    ensures decides { λ r. ⌜ (r .free ≡ 0) ↔ T (feasible (problem (lists set)) (marked marks)) ⌝ }
-    ensures meets { λ r. ⌜ Meets (rows set) r ⌝ }
-    ensures known { λ r. ⌜ Known (rows set) (marked (r .left)) (marked known) ⌝ }
+// The lowest of the levels that are not filled yet.
+fn lowest_free(free: usize) -> PriorityLevel
+    requires { ⌜ 1 ≤ free ⌝ }
+    ensures { λ r. ⌜ r ≡ lowestFree free ⌝ }
 {
-    let mut order = from.order;
-    let mut free = from.free;
-    let mut left = from.left;
-    let mut words = [0u64; MAX_WORDS];
-    let n = flatten(set, &mut words);
-    while 0 < free {
-        let ready = ready(set, marks, left);
-        let Choice::Takes(task, _) = choose_any(&words[..n], ready, known, other, left) else {
-            return Standing { order, free, left };
+    PriorityLevel(free - 1)
+}
+
+// Goes on with a search until every level is filled or nobody may take the next. Without hints it is the assignment's own.
+pub fn fill_levels(
+    rows: &[u64],
+    rules: &[u64],
+    active: [bool; MAX_RULES],
+    hints: Hints,
+    from: Search,
+) -> Search
+    requires { ⌜ Sound (listsIn (now rows) (now rules)) ⌝ }
+    requires { ⌜ Searched (problem (listsIn (now rows) (now rules))) (marked active) from ⌝ }
+    requires { ⌜ Helps (bare (tasksIn (now rows))) (marked (from .left)) hints ⌝ }
+    ensures { λ r. ⌜ Ended (problem (listsIn (now (rows .entry)) (now (rules .entry)))) (marked active) r ⌝ }
+    ensures decides { λ r. ⌜ (r .free ≡ 0) ↔ SomeOrder (listsIn (now (rows .entry)) (now (rules .entry))) (marked active) ⌝ }
+    ensures helps { λ r. ⌜ Helps (bare (tasksIn (now (rows .entry)))) (marked (r .left)) hints ⌝ }
+    ensures assigns { λ r. ⌜ (hints .given ≡ false → Assigns (problem (listsIn (now (rows .entry)) (now (rules .entry)))) (marked active) from r) ⌝ }
+{
+    let given = hints.given;
+    let known = hints.known;
+    let other = hints.other;
+    let mut search = from;
+    while 0 < search.free {
+        let left = search.left;
+        let ready = ready(rules, active, left);
+        let choice = if given {
+            choose_any(rows, ready, known, other, left)
+        } else {
+            choose(rows, ready, left)
         };
-        free -= 1;
-        order[free] = task;
+        let Choice::Takes(task, response) = choice else {
+            return search;
+        };
+        let level = lowest_free(search.free);
+        let at = level.0;
         let i = task.0;
-        left[i] = false;
+        search.order[at] = task;
+        search.responses[at] = response;
+        search.free = at;
+        search.left[i] = false;
     }
-    Standing { order, free, left }
+    search
+}
+
+// The search from the start, with these rules active: every level is filled exactly when some order keeps those rules and
+// meets every deadline.
+pub fn trial(rows: &[u64], rules: &[u64], active: [bool; MAX_RULES]) -> Search
+    requires { ⌜ Sound (listsIn (now rows) (now rules)) ⌝ }
+    ensures { λ r. ⌜ HoldsLevels (problem (listsIn (now (rows .entry)) (now (rules .entry))))
+        (assign (problem (listsIn (now (rows .entry)) (now (rules .entry)))) (marked active)) r ⌝ }
+    ensures ended { λ r. ⌜ Ended (problem (listsIn (now (rows .entry)) (now (rules .entry)))) (marked active) r ⌝ }
+    ensures decides { λ r. ⌜ (r .free ≡ 0) ↔ SomeOrder (listsIn (now (rows .entry)) (now (rules .entry))) (marked active) ⌝ }
+{
+    let n = rows.len() / TASK_WORDS;
+    let left = first(n);
+    let start = Search {
+        order: [TaskIndex(0); MAX_TASKS],
+        responses: [0; MAX_TASKS],
+        free: n,
+        left,
+    };
+    let hints = Hints {
+        given: false,
+        known: [false; MAX_TASKS],
+        other: start,
+    };
+    fill_levels(rows, rules, active, hints, start)
+}
+
+// A task meets its deadline with the others that are left above it.
+fn passes(rows: &[u64], left: [bool; MAX_TASKS], task: TaskIndex) -> bool
+    requires { ⌜ SoundTasks (tasksIn (now rows)) ⌝ }
+    requires { ⌜ task .0 < length (tasksIn (now rows)) ⌝ }
+    ensures { λ r. ⌜ r ≡ passes (bare (tasksIn (now (rows .entry)))) (task .0) (without (marked left) (task .0)) ⌝ }
+{
+    if let Response::Within(_) = level_response(rows, left, task) {
+        return true;
+    }
+    false
+}
+
+// The tasks left that meet their deadline with the others that are left above them.
+pub fn passing(rows: &[u64], left: [bool; MAX_TASKS]) -> [bool; MAX_TASKS]
+    requires { ⌜ SoundTasks (tasksIn (now rows)) ⌝ }
+    ensures { λ r. ⌜ Known (bare (tasksIn (now (rows .entry)))) (marked left) (marked r) ⌝ }
+{
+    let n = rows.len() / TASK_WORDS;
+    let mut known = [false; MAX_TASKS];
+    let mut j = 0;
+    while j < n {
+        if left[j] {
+            known[j] = passes(rows, left, TaskIndex(j));
+        }
+        j += 1;
+    }
+    known
 }

@@ -1,6 +1,5 @@
 pub mod Listing
-pub mod Table
-pub mod RowsLaws
-pub mod Writing
+pub mod Numbers
+pub mod NumbersLaws
+pub mod Showing
 pub mod Short
-pub mod Shown

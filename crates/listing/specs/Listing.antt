@@ -7,41 +7,39 @@ use lib.ListN.{length, getD}
 use Rattle.sets.specs.Choice.{pick}
 use Rattle.sets.specs.Marks.{marked}
 use Rattle.sets.specs.Onto.{onto}
-use Rattle.decimal.specs.Decimal.{tab, feed, field}
+use Rattle.lines.specs.Decimal.{tab}
+use Rattle.lines.specs.Line.{line, linesOf}
+use Rattle.taskset.specs.declared.Rule.{Rule}
+use Rattle.taskset.specs.declared.TaskIndex.{TaskIndex}
 use Rattle.taskset.specs.declared.TaskSet.{TaskSet}
-use Rattle.taskset.specs.Adding.{blankRule}
-use Rattle.assignment.specs.Levels.{index}
+use Rattle.taskset.specs.Model.{Lists, ruleAt}
+use Rattle.assignment.specs.Search.{index}
 use Rattle.verdict.specs.declared.Answer.{Answer}
 use Rattle.verdict.specs.declared.Answer.the-variants.{Refused, Order, Core}
-use Rattle.verdict.specs.declared.Solved.{Solved}
-use Rattle.listing.specs.declared.Row.{Row}
+use Rattle.verdict.specs.declared.Verdict.{Verdict}
+use Rattle.listing.specs.declared.Shown.{Shown}
 use Rattle.listing.specs.declared.Listed.{Listed}
 
--- ---- rows
+-- ---- the numbers of a line after the head line
 
 -- of an order: level, place, response
-abbrev pub levelRow : Solved → ℕ → Row
-levelRow r k = record { first = k; second = getD (r .order) k (index 0) .0; third = getD (r .responses) k 0 }
+abbrev pub levelLine : List TaskIndex → List ℕ → ℕ → List ℕ
+levelLine order responses k = k ∷ getD order k (index 0) .0 ∷ getD responses k 0 ∷ []
 
 -- of a core: rule place, u, l
-abbrev pub ruleRow : Solved → ℕ → Row
-ruleRow r k =
-    let rule = getD (r .set .rules) k blankRule in
-    record { first = k; second = rule .higher .0; third = rule .lower .0 }
+abbrev pub ruleLine : List Rule → ℕ → List ℕ
+ruleLine rules k = k ∷ ruleAt rules k .higher .0 ∷ ruleAt rules k .lower .0 ∷ []
 
--- the rows of the indices below n that are in, rising
-unfoldable pub rowsBelow : (ℕ → Bool) → (ℕ → Row) → ℕ → List Row
-rowsBelow isIn row zero = []
-rowsBelow isIn row (suc n) = rowsBelow isIn row n ++ pick (isIn n) (row n ∷ []) []
+-- the lines of the indices below n that are in, rising
+unfoldable pub linesBelow : (ℕ → Bool) → (ℕ → List ℕ) → ℕ → List (List ℕ)
+linesBelow isIn nums zero = []
+linesBelow isIn nums (suc n) = linesBelow isIn nums n ++ pick (isIn n) (nums n ∷ []) []
 
 -- every level from 0; every rule of the core
-abbrev pub rowsFor : Solved → Answer → List Row
-rowsFor r (Refused k) = []
-rowsFor r Order = rowsBelow (λ k. true) (levelRow r) (r .set .ntasks)
-rowsFor r Core = rowsBelow (marked (r .core)) (ruleRow r) (r .set .nrules)
-
-abbrev pub rowsOf : Solved → List Row
-rowsOf r = rowsFor r (r .answer)
+abbrev pub linesFor : Lists → Verdict → Answer → List (List ℕ)
+linesFor l v (Refused k) = []
+linesFor l v Order = linesBelow (λ k. true) (levelLine (v .order) (v .responses)) (length (l .tasks))
+linesFor l v Core = linesBelow (marked (v .core)) (ruleLine (l .rules)) (length (l .rules))
 
 -- ---- bytes
 
@@ -51,19 +49,12 @@ word (Refused k) = []
 word Order = 111 ∷ 114 ∷ 100 ∷ 101 ∷ 114 ∷ tab ∷ []
 word Core = 99 ∷ 111 ∷ 114 ∷ 101 ∷ tab ∷ []
 
-unfoldable pub rowBytes : Row → List ℕ
-rowBytes r = field (r .first) tab ++ field (r .second) tab ++ field (r .third) feed
+-- the head line, with the count of the others, and those
+unfoldable pub listingWith : List ℕ → List (List ℕ) → List ℕ
+listingWith head lines = line head (length lines ∷ []) ++ linesOf [] lines
 
-unfoldable pub rowsBytes : List Row → List ℕ
-rowsBytes [] = []
-rowsBytes (r ∷ rs) = rowBytes r ++ rowsBytes rs
-
--- the head line, with the count of rows, and a line for each row
-unfoldable pub listingWith : List ℕ → List Row → List ℕ
-listingWith head rows = (head ++ field (length rows) feed) ++ rowsBytes rows
-
-abbrev pub listing : Solved → List ℕ
-listing r = listingWith (word (r .answer)) (rowsOf r)
+abbrev pub listing : Lists → Verdict → List ℕ
+listing l v = listingWith (word (v .answer)) (linesFor l v (v .answer))
 
 -- ---- into a buffer
 
@@ -73,25 +64,32 @@ pub data Outcome : Type 0 where
   shown : List ℕ → Outcome
 
 -- a refused solving is refused by its number
-abbrev pub outcomeFor : Solved → Answer → Outcome
-outcomeFor r (Refused k) = refused k
-outcomeFor r Order = shown (listing r)
-outcomeFor r Core = shown (listing r)
+abbrev pub outcomeFor : Lists → Verdict → Answer → Outcome
+outcomeFor l v (Refused k) = refused k
+outcomeFor l v Order = shown (listing l v)
+outcomeFor l v Core = shown (listing l v)
 
-abbrev pub outcome : Solved → Outcome
-outcome r = outcomeFor r (r .answer)
+abbrev pub outcome : Lists → Verdict → Outcome
+outcome l v = outcomeFor l v (v .answer)
 
 -- 9 where the buffer is shorter than the listing
 abbrev pub fitted : ℕ → Outcome → Outcome
 fitted room (refused k) = refused k
 fitted room (shown bytes) = pick (leb (length bytes) room) (shown bytes) (refused 9)
 
--- what listing answers
+-- what showing a verdict answers, and listing a set
+abbrev pub shownAs : Outcome → Shown
+shownAs (refused k) = record { refusal = k; count = 0 }
+shownAs (shown bytes) = record { refusal = 0; count = length bytes }
+
 abbrev pub listed : TaskSet → Outcome → Listed
-listed s (refused k) = record { refusal = k; count = 0; set = s }
-listed s (shown bytes) = record { refusal = 0; count = length bytes; set = s }
+listed s o = record { shown = shownAs o; set = s }
 
 -- the buffer afterwards: as it was on a refusal; else the bytes, and then what stood after their places
 abbrev pub bufferAfter : Outcome → List ℕ → List ℕ
 bufferAfter (refused k) buffer = buffer
 bufferAfter (shown bytes) buffer = onto bytes buffer
+
+-- the bytes that are always enough for a listing
+abbrev pub maxListing : ℕ
+maxListing = 1_289

@@ -13,6 +13,6 @@ inputOf (pos n) buffer = Bytes (min n (length buffer))
 inputOf (negsuc n) buffer = Failed
 
 -- the bytes that were read stand at the front of a buffer
-abbrev pub Holds : List ℕ → Input → Type 0
-Holds buffer (Bytes n) = Counts n buffer
-Holds buffer Failed = Unit {0}
+abbrev pub InFront : List ℕ → Input → Type 0
+InFront buffer (Bytes n) = Counts n buffer
+InFront buffer Failed = Unit {0}

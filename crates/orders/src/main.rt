@@ -1,7 +1,7 @@
 // Standard input to a listing, or one line `bad`, line, number. A failed read or write is told on standard error.
 
 ghost use mathlib.Core.Path.{_≡_};
-ghost use Rattle.orders.specs.Input.{inputOf, Holds};
+ghost use Rattle.orders.specs.Input.{inputOf, InFront};
 use listing::MAX_LISTING;
 use text::MAX_TEXT;
 
@@ -15,7 +15,7 @@ enum Input {
 }
 
 // What an answer of `libc::read` says. A call that a signal interrupts before it moves a byte counts as one that failed.
-fn outcome(got: isize, buffer: &[u8]) -> Input
+fn told(got: isize, buffer: &[u8]) -> Input
     ensures { λ r. ⌜ r ≡ inputOf got (now (buffer .entry)) ⌝ }
 {
     if got < 0 {
@@ -26,15 +26,15 @@ fn outcome(got: isize, buffer: &[u8]) -> Input
 
 // One read.
 fn read_some(fd: i32, buffer: &mut [u8]) -> Input
-    ensures { λ r. ⌜ Holds (now (buffer .exit)) r ⌝ }
+    ensures { λ r. ⌜ InFront (now (buffer .exit)) r ⌝ }
 {
     let got = libc::read(fd, buffer);
-    outcome(got, buffer)
+    told(got, buffer)
 }
 
 // Reads until the buffer is full, the input ends or a read fails.
 fn read_text(fd: i32, buffer: &mut [u8]) -> Input
-    ensures { λ r. ⌜ Holds (now (buffer .exit)) r ⌝ }
+    ensures { λ r. ⌜ InFront (now (buffer .exit)) r ⌝ }
 {
     let mut done = 0;
     while done < buffer.len() {

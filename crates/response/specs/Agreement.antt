@@ -14,10 +14,7 @@ use Rattle.response.specs.declared.Window.the-variants.{At, Beyond}
 use Rattle.response.specs.declared.Response.{Response}
 use Rattle.response.specs.declared.Response.the-variants.{Within, Late}
 use Rattle.response.specs.Equation.{SaysWindow, Says, windowFrom, windowOf, respond, responseOf}
-
--- no solution lies below w
-abbrev pub Bounds : (ℕ → ℕ) → ℕ → Type 0
-Bounds d w = (v : ℕ) → 1 ≤ v → d v ≤ v → w ≤ v
+use Rattle.response.specs.Load.{Bounds}
 
 module _ (d : ℕ → ℕ) where
   -- a number that is no solution and bounds them all moves the bound up
@@ -86,7 +83,8 @@ module _ (d : ℕ → ℕ) where
 
 -- ---- demands that agree up to room have the same window up to it
 
-same-from : (d e : ℕ → ℕ) (fuel w : ℕ) → ((v : ℕ) → w ≤ v → v < w + fuel → d v ≡ e v) → windowFrom d fuel w ≡ windowFrom e fuel w
+same-from : (d e : ℕ → ℕ) (fuel w : ℕ) → ((v : ℕ) → w ≤ v → v < w + fuel → d v ≡ e v)
+    → windowFrom d fuel w ≡ windowFrom e fuel w
 unfolding windowFrom
 same-from d e zero w same = refl
 same-from d e (suc fuel) w same =

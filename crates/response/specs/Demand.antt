@@ -1,21 +1,24 @@
 -- Rounding up, and what follows for demand: it grows with w and with the tasks above, and it is far from what a word
 -- holds. Assumes nothing.
 use mathlib.Core.Path.{_≡_, refl, sym, _∙_}
-use mathlib.Core.Bool.{Bool, true}
+use mathlib.Core.Bool.{Bool}
 use mathlib.Core.List.{List}
 use mathlib.Core.Logic.{⊎-elim}
 use Prim.Native.Nat.{ℕ, _+_, _-_, _*_, _/_, _≤_, _<_}
-use native.Mathlib.Nat.{le-refl, le-trans, le-antisymm, lt-of-lt-of-le, add-le-add, eq-zero-or-pos, div-mul-le-self, le-div-iff-mul-le, lt-div-mul-add, div-lt-iff-lt-mul, mul-le-mul, mul-le-mul-left, mul-le-mul-right, suc-mul, one-mul, div-zero, le-of-eq, le-of-suc-le-suc}
+use native.Mathlib.Nat.{le-refl, le-trans, le-antisymm, lt-of-lt-of-le, le-of-eq, le-of-suc-le-suc, add-le-add, eq-zero-or-pos}
+use native.Mathlib.Nat.{div-mul-le-self, le-div-iff-mul-le, lt-div-mul-add, div-lt-iff-lt-mul, div-zero}
+use native.Mathlib.Nat.{mul-le-mul, mul-le-mul-left, mul-le-mul-right, suc-mul, one-mul}
 use native.Mathlib.Omega.{arith}
 use lib.ListN.{length, getD}
 use Rattle.sets.specs.Bounded.{Subset}
 use Rattle.sets.specs.Sum.{sum, sum-mono, sum-le}
 use Rattle.taskset.specs.declared.Task.{Task}
-use Rattle.taskset.specs.Rows.{maxTasks, maxPeriod, InRanges}
+use Rattle.taskset.specs.Refusals.{maxTasks, maxPeriod, InRanges}
+use Rattle.taskset.specs.Model.{taskAt}
 use Rattle.response.specs.declared.Response.the-variants.{Within}
-use Rattle.response.specs.Equation.{ceil, taskAt, interference, demand, responseTime}
-use Rattle.response.specs.Words.{Rows}
+use Rattle.response.specs.Equation.{ceil, interference, demand, responseTime}
 use Rattle.response.specs.Agreement.{less-demand}
+use Rattle.response.specs.Load.{keptAt, every, loadDemand, IsLoad}
 
 -- ---- rounding up
 
@@ -64,8 +67,7 @@ module _ (tasks : List Task) (i : ℕ) where
   unfolding demand
   demand-fewer fewer above sub w =
       add-le-add (le-refl (taskAt tasks i .blocking + taskAt tasks i .execution))
-      (sum-mono (length tasks) fewer above (λ j. interference (taskAt tasks j) w) (λ j. interference (taskAt tasks j) w)
-      sub (λ j l t. le-refl (interference (taskAt tasks j) w)))
+      (sum-mono (length tasks) fewer above _ _ sub (λ j l t. le-refl (interference (taskAt tasks j) w)))
 
   -- fewer tasks above never lengthen a response
   pub fewer-above : (fewer above : ℕ → Bool) → Subset (length tasks) fewer above
@@ -83,34 +85,16 @@ interference-once t w low high =
 
 -- ---- of a load: a base, and tasks that are kept beside it, as indices
 
-abbrev pub every : ℕ → Bool
-every k = true
-
-abbrev pub keptAt : List Task → List ℕ → ℕ → Task
-keptAt tasks kept k = taskAt tasks (getD kept k 0)
-
--- B + C of a task, and the C of each task above at most; and some of a set's tasks
-pub record IsLoad (base : ℕ) (tasks : List Task) (kept : List ℕ) : Type 0 where
-  pub rows : Rows tasks
-  pub low : 1 ≤ base
-  pub high : base ≤ (maxTasks + 2) * maxPeriod
-  pub few : length kept ≤ maxTasks
-  pub inside : (k : ℕ) → k < length kept → getD kept k 0 < length tasks
-
--- its demand
-unfoldable pub total : ℕ → List Task → List ℕ → ℕ → ℕ
-total base tasks kept w = base + sum (length kept) every (λ k. interference (keptAt tasks kept k) w)
-
-pub total-mono : (base : ℕ) (tasks : List Task) (kept : List ℕ) (v w : ℕ) → v ≤ w → total base tasks kept v ≤ total base tasks kept w
-unfolding total
-total-mono base tasks kept v w h =
+pub load-mono : (base : ℕ) (tasks : List Task) (kept : List ℕ) (v w : ℕ) → v ≤ w
+    → loadDemand base tasks kept v ≤ loadDemand base tasks kept w
+unfolding loadDemand
+load-mono base tasks kept v w h =
     add-le-add (le-refl base)
-    (sum-mono (length kept) every every (λ k. interference (keptAt tasks kept k) v) (λ k. interference (keptAt tasks kept k) w)
-    (λ k l t. t) (λ k l t. interference-mono (keptAt tasks kept k) v w h))
+    (sum-mono (length kept) every every _ _ (λ k l t. t) (λ k l t. interference-mono (keptAt tasks kept k) v w h))
 
 module _ {base : ℕ} {tasks : List Task} {kept : List ℕ} (load : IsLoad base tasks kept) where
   pub kept-row : (k : ℕ) → k < length kept → InRanges (keptAt tasks kept k)
-  kept-row k h = load .rows .each (getD kept k 0) (load .inside k h)
+  kept-row k h = load .sound .each (getD kept k 0) (load .inside k h)
 
   -- the interference of 64 tasks is far from what a word holds
   pub interference-sum : (j : ℕ) (w : ℕ) → w ≤ maxPeriod → j ≤ length kept
@@ -118,5 +102,5 @@ module _ {base : ℕ} {tasks : List Task} {kept : List ℕ} (load : IsLoad base 
   interference-sum j w short h =
       let each : w + 2 * maxPeriod ≤ 3 * maxPeriod = omega arith in
       le-trans
-      (sum-le j every (λ k. interference (keptAt tasks kept k) w) (w + 2 * maxPeriod) (λ k l t. interference-le (keptAt tasks kept k) w (kept-row k (lt-of-lt-of-le l h))))
+      (sum-le j every _ (w + 2 * maxPeriod) (λ k l t. interference-le (keptAt tasks kept k) w (kept-row k (lt-of-lt-of-le l h))))
       (mul-le-mul (le-trans h (load .few)) each)

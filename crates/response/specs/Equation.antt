@@ -6,11 +6,11 @@ use mathlib.Core.Bool.{Bool}
 use mathlib.Core.List.{List}
 use Prim.Native.Nat.{ℕ, zero, suc, _+_, _-_, _*_, _/_, _≤_, _<_}
 use lib.Dec.{leb}
-use lib.ListN.{length, getD}
+use lib.ListN.{length}
 use Rattle.sets.specs.Choice.{pick}
 use Rattle.sets.specs.Sum.{sum}
 use Rattle.taskset.specs.declared.Task.{Task}
-use Rattle.taskset.specs.Adding.{blankTask}
+use Rattle.taskset.specs.Model.{taskAt}
 use Rattle.response.specs.declared.Window.{Window}
 use Rattle.response.specs.declared.Window.the-variants.{At, Beyond}
 use Rattle.response.specs.declared.Response.{Response}
@@ -19,9 +19,6 @@ use Rattle.response.specs.declared.Response.the-variants.{Within, Late}
 -- ⌈x / t⌉
 abbrev pub ceil : ℕ → ℕ → ℕ
 ceil x t = (x + (t - 1)) / t
-
-abbrev pub taskAt : List Task → ℕ → Task
-taskAt tasks i = getD tasks i blankTask
 
 -- ⌈(w + J) / T⌉ × C
 unfoldable pub interference : Task → ℕ → ℕ

@@ -4,52 +4,26 @@
 use mathlib.Core.Path.{_≡_, refl, sym, ap, _∙_, subst}
 use mathlib.Core.Bool.{Bool, true, false}
 use mathlib.Core.List.{List}
-use Prim.Native.Nat.{ℕ, _+_, _-_, _*_, _/_, _^_, _≤_, _<_}
-use native.Mathlib.Nat.{le-trans, lt-of-lt-of-le, div-mul-le-self, mul-le-mul, mul-le-mul-left, mul-le-mul-right, mul-assoc, mul-comm, mul-sub, div-le-of-le-mul}
+use Prim.Native.Nat.{ℕ, _+_, _-_, _*_, _^_, _≤_, _<_}
+use native.Mathlib.Nat.{le-trans, lt-of-lt-of-le, div-mul-le-self, mul-le-mul, mul-le-mul-left, mul-le-mul-right}
+use native.Mathlib.Nat.{mul-assoc, mul-comm, mul-sub, div-le-of-le-mul}
 use native.Mathlib.Omega.{arith}
-use lib.Dec.{leb, ltb}
+use lib.Dec.{leb}
 use lib.ListN.{length}
 use borrow.Author.Tests.{leb-true, leb-false, lt-ltb, le-ltb, le-leb, lt-leb}
 use Rattle.sets.specs.Choice.{pick}
 use Rattle.sets.specs.Sum.{sum, sum-start, sum-turn, sum-le, sum-scaled}
 use Rattle.taskset.specs.declared.Task.{Task}
-use Rattle.taskset.specs.Rows.{maxPeriod, InRanges}
+use Rattle.taskset.specs.Refusals.{maxPeriod, InRanges}
+use Rattle.taskset.specs.Model.{taskAt}
 use Rattle.response.specs.declared.Part.{Part}
 use Rattle.response.specs.declared.Window.{Window}
 use Rattle.response.specs.declared.Response.the-variants.{Late}
-use Rattle.response.specs.Equation.{ceil, taskAt, interference, demand, windowOf, Says, respond, responseOf}
-use Rattle.response.specs.Agreement.{Bounds, response-is, response-both, climb}
-use Rattle.response.specs.Demand.{ceil-above, ceil-least, interference-mono, interference-le, every, keptAt, IsLoad, total, total-mono, kept-row}
-
--- ---- what a task adds to a bound
-
--- a load of this many parts is the whole processor
-abbrev pub scale : ℕ
-scale = 2 ^ 32
-
--- the load of a task, rounded down
-abbrev pub rate : Task → ℕ
-rate t = t .execution * scale / t .period
-
-abbrev pub releases : Task → ℕ → ℕ
-releases t w = ceil (w + t .jitter) (t .period)
-
--- what it brings at w does not last until `reach`
-abbrev pub ends : Task → ℕ → ℕ → Bool
-ends t w reach = ltb (releases t w * t .period - t .jitter) reach
-
-unfoldable pub fixedPart : ℕ → ℕ → Task → ℕ
-fixedPart w reach t = pick (ends t w reach) (rate t * t .jitter) (releases t w * t .execution * scale)
-
-unfoldable pub ratePart : ℕ → ℕ → Task → ℕ
-ratePart w reach t = pick (ends t w reach) (rate t) 0
-
-abbrev pub partOf : Task → ℕ → ℕ → Part
-partOf t w reach = record { fixed = fixedPart w reach t; rate = ratePart w reach t }
-
--- the bound of a fixed part and a rate; a rate of the whole processor leaves no window
-unfoldable pub boundOf : ℕ → ℕ → ℕ
-boundOf fixed rate = pick (leb scale rate) (maxPeriod + 1) (ceil fixed (scale - rate))
+use Rattle.response.specs.Equation.{ceil, interference, demand, windowOf, Says, respond, responseOf}
+use Rattle.response.specs.Agreement.{response-is, response-both, climb}
+use Rattle.response.specs.Demand.{ceil-above, ceil-least, interference-mono, interference-le, load-mono, kept-row}
+use Rattle.response.specs.Load.{Bounds, every, keptAt, IsLoad, loadDemand}
+use Rattle.response.specs.Load.{scale, rate, releases, ends, fixedPart, ratePart, partOf, boundOf}
 
 -- ---- it is no more than what the task brings
 
@@ -58,11 +32,11 @@ unfolding interference
 rate-le t v h =
     let q = releases t v in
     let each : rate t * t .period ≤ t .execution * scale = div-mul-le-self (t .execution * scale) (t .period) in
-    let a : (v + t .jitter) * rate t ≤ q * t .period * rate t = mul-le-mul-right (rate t) (ceil-above (v + t .jitter) (t .period) h) in
-    let b : q * (t .period * rate t) ≤ q * (t .execution * scale) = mul-le-mul-left q (rw (mul-comm (rate t) (t .period)) at each) in
-    let c : q * t .period * rate t ≡ q * (t .period * rate t) = mul-assoc q (t .period) (rate t) in
-    let e : q * (t .execution * scale) ≡ scale * (q * t .execution) = sym (mul-assoc q (t .execution) scale) ∙ mul-comm (q * t .execution) scale in
-    omega arith
+    let a = mul-le-mul-right (rate t) (ceil-above (v + t .jitter) (t .period) h) in
+    let b = mul-le-mul-left q (rw (mul-comm (rate t) (t .period)) at each) in
+    let c = mul-assoc q (t .period) (rate t) in
+    let e = sym (mul-assoc q (t .execution) scale) ∙ mul-comm (q * t .execution) scale in
+    omega (arith, a, b, c, e)
 
 part-le : (t : Task) (w reach v : ℕ) → 1 ≤ t .period → w ≤ v
     → fixedPart w reach t + v * ratePart w reach t ≤ scale * interference t v
@@ -146,44 +120,47 @@ module _ (tasks : List Task) (kept : List ℕ) (w reach : ℕ) where
     pub fixed-is : fixed ≡ base * scale + sum n every fixed-at
     pub rate-is : rate ≡ 0 + sum n every rate-at
 
-  pub parts-none : (base : ℕ) → Parts base 0 (base * scale) 0
-  parts-none base = record { fixed-is = sum-start (base * scale) every fixed-at; rate-is = sum-start 0 every rate-at }
+pub parts-none : {tasks : List Task} {kept : List ℕ} {w reach base : ℕ} → Parts tasks kept w reach base 0 (base * scale) 0
+parts-none = record { fixed-is = sum-start _ _ _; rate-is = sum-start _ _ _ }
 
-  pub parts-more : (base n fixed rate : ℕ) (t : Task) (p : Part) → Parts base n fixed rate → t ≡ keptAt tasks kept n → p ≡ partOf t w reach
-      → Parts base (n + 1) (fixed + p .fixed) (rate + p .rate)
-  parts-more base n fixed rate t p sums read e =
+module _ {tasks : List Task} {kept : List ℕ} {w reach base n fixed rate : ℕ} (sums : Parts tasks kept w reach base n fixed rate) where
+  pub parts-more : {t : Task} {p : Part} → t ≡ keptAt tasks kept n → p ≡ partOf t w reach
+      → Parts tasks kept w reach base (n + 1) (fixed + p .fixed) (rate + p .rate)
+  parts-more read e =
       let part = rw read at e in
       record {
-        fixed-is = sum-turn fixed (base * scale) n every fixed-at (p .fixed) (sums .fixed-is) (ap (λ (x : Part). x .fixed) part);
-        rate-is = sum-turn rate 0 n every rate-at (p .rate) (sums .rate-is) (ap (λ (x : Part). x .rate) part);
+        fixed-is = sum-turn _ _ n every _ _ (sums .fixed-is) (ap (λ (x : Part). x .fixed) part);
+        rate-is = sum-turn _ _ n every _ _ (sums .rate-is) (ap (λ (x : Part). x .rate) part);
       }
 
-  module _ (base n fixed rate : ℕ) (sums : Parts base n fixed rate) (load : IsLoad base tasks kept) where
+  module _ (load : IsLoad base tasks kept) where
     pub parts-fit : w ≤ maxPeriod → n ≤ length kept → (fixed + scale < 2 ^ 64) × (rate < 2 ^ 64)
     parts-fit short h =
         let few = le-trans h (load .few) in
         let row : (k : ℕ) → k < n → InRanges (keptAt tasks kept k) = λ k l. kept-row load k (lt-of-lt-of-le l h) in
-        let a = sum-le n every fixed-at (3 * maxPeriod * scale) (λ k l t. fixed-le (keptAt tasks kept k) w reach (row k l) short) in
-        let b = sum-le n every rate-at scale (λ k l t. rate-part-le (keptAt tasks kept k) w reach (row k l)) in
+        let a = sum-le n every _ (3 * maxPeriod * scale) (λ k l t. fixed-le (keptAt tasks kept k) w reach (row k l) short) in
+        let b = sum-le n every _ scale (λ k l t. rate-part-le (keptAt tasks kept k) w reach (row k l)) in
         (omega (arith, a, few, load .high, sums .fixed-is), omega (arith, b, few, sums .rate-is))
 
     -- the bound
-    pub leap-bounds : Bounds (total base tasks kept) w → n ≡ length kept → Bounds (total base tasks kept) (boundOf fixed rate)
-    unfolding total boundOf
+    pub leap-bounds : Bounds (loadDemand base tasks kept) w → n ≡ length kept
+        → Bounds (loadDemand base tasks kept) (boundOf fixed rate)
+    unfolding loadDemand boundOf
     leap-bounds b end v low met = go (leb scale rate) refl
       where
         -- a window has fixed + v × rate ≤ v × scale
         spread : fixed + v * rate ≤ scale * v
         spread =
+            let row : (k : ℕ) → k < n → InRanges (keptAt tasks kept k) = λ k l. kept-row load k (omega (arith, l, end)) in
             let s =
-            sum-scaled n every fixed-at rate-at (λ k. interference (keptAt tasks kept k) v) v scale
-            (λ k l t. part-le (keptAt tasks kept k) w reach v (kept-row load k (omega (arith, l, end)) .period .0) (b v low met))
-            in
-            let m = rw (← end) at met in
-            omega (arith, s, m, sums .fixed-is, ap (λ (r : ℕ). v * r) (sums .rate-is))
+            sum-scaled n every _ _ _ v scale
+            (λ k l t. part-le (keptAt tasks kept k) w reach v (row k l .period .0) (b v low met)) in
+            omega (arith, s, rw (← end) at met, sums .fixed-is, ap (λ (r : ℕ). v * r) (sums .rate-is))
 
         go : (c : Bool) → leb scale rate ≡ c → pick c (maxPeriod + 1) (ceil fixed (scale - rate)) ≤ v
-        go true g = absurd (omega (arith, spread, mul-le-mul-left v (leb-true scale rate g), sums .fixed-is, load .low, mul-comm v scale))
+        go true g =
+            let over = mul-le-mul-left v (leb-true scale rate g) in
+            absurd (omega (arith, spread, over, sums .fixed-is, load .low, mul-comm v scale))
         go false g =
             let under = leb-false scale rate g in
             ceil-least fixed (scale - rate) v (omega (arith, under)) (omega (arith, spread, mul-sub v scale rate, mul-comm v scale))
@@ -191,12 +168,12 @@ module _ (tasks : List Task) (kept : List ℕ) (w reach : ℕ) where
 -- ---- the search
 
 -- it starts at the demand at 1
-pub start-bounds : (base : ℕ) (tasks : List Task) (kept : List ℕ) (start : ℕ) → 1 ≤ base → start ≡ total base tasks kept 1
-    → (1 ≤ start) × Bounds (total base tasks kept) start
-unfolding total
+pub start-bounds : (base : ℕ) (tasks : List Task) (kept : List ℕ) (start : ℕ) → 1 ≤ base → start ≡ loadDemand base tasks kept 1
+    → (1 ≤ start) × Bounds (loadDemand base tasks kept) start
+unfolding loadDemand
 start-bounds base tasks kept start pos e = (
   omega (arith, pos, e),
-  subst (Bounds (total base tasks kept)) (sym e) (climb (total base tasks kept) (total-mono base tasks kept) 1 (λ v low met. low)),
+  subst (Bounds (loadDemand base tasks kept)) (sym e) (climb (loadDemand base tasks kept) (load-mono base tasks kept) 1 (λ v low met. low)),
 )
 
 -- its answers for a task that was read

@@ -1,5 +1,5 @@
 pub mod Equation
-pub mod Words
+pub mod Load
 pub mod Agreement
 pub mod Demand
 pub mod Gather

@@ -1,29 +1,20 @@
 // The response-time search of document 01: demand, response window, response.
 
 ghost use mathlib.Core.Path.{_≡_};
-ghost use mathlib.Core.Bool.{true};
 ghost use Prim.Native.Nat.{_+_, _^_, _≤_, _<_};
 ghost use lib.ListN.{length, take};
 ghost use Rattle.sets.specs.Marks.{marked};
-ghost use Rattle.taskset.specs.Rows.{maxTasks, maxPeriod, InRanges};
-ghost use Rattle.taskset.specs.Adding.{rows, isMade};
-ghost use Rattle.response.specs.Equation.{ceil, taskAt, interference, windowOf, responseTime, SaysResponse};
-ghost use Rattle.response.specs.Words.{maxWords, tasksIn, Rows};
-ghost use Rattle.response.specs.Agreement.{Bounds};
-ghost use Rattle.response.specs.Demand.{IsLoad, total};
-ghost use Rattle.response.specs.Gather.{shareOf, StandsFor};
-ghost use Rattle.response.specs.Leap.{scale, partOf, boundOf};
+ghost use Rattle.taskset.specs.Refusals.{maxTasks, maxPeriod, InRanges};
+ghost use Rattle.taskset.specs.Model.{taskAt, SoundTasks};
+ghost use Rattle.taskset.specs.Words.{tasksIn};
+ghost use Rattle.response.specs.Equation.{ceil, interference, windowOf, responseTime, SaysResponse};
+ghost use Rattle.response.specs.Load.{Bounds, IsLoad, loadDemand, shareOf, StandsFor, scale, partOf, boundOf};
 use taskset::MAX_PERIOD;
 use taskset::MAX_TASKS;
+use taskset::TASK_WORDS;
 use taskset::Task;
 use taskset::TaskIndex;
-use taskset::TaskSet;
-
-// A row as words: period, execution time, deadline, jitter, blocking.
-pub const ROW: usize = 5;
-
-// The words that are enough for the rows of every set.
-pub const MAX_WORDS: usize = ROW * MAX_TASKS;
+use taskset::task_in;
 
 // 2³²: a load of this many parts is the whole processor.
 const SCALE: u64 = 4294967296;
@@ -53,44 +44,6 @@ pub enum Response {
     Late,
 }
 
-// Writes a set's rows as words, and says how many words that is.
-pub fn flatten(set: TaskSet, words: &mut [u64]) -> usize
-    requires { ⌜ isMade set ≡ true ⌝ }
-    requires { ⌜ maxWords ≤ length (now words) ⌝ }
-    ensures { λ r. ⌜ r ≤ length (now (words .exit)) ⌝ }
-    ensures rows { λ r. ⌜ tasksIn (take r (now (words .exit))) ≡ rows set ⌝ }
-{
-    let tasks = set.tasks;
-    let n = set.ntasks;
-    let mut i = 0;
-    while i < n {
-        let t = tasks[i];
-        let at = ROW * i;
-        words[at] = t.period;
-        words[at + 1] = t.execution;
-        words[at + 2] = t.deadline;
-        words[at + 3] = t.jitter;
-        words[at + 4] = t.blocking;
-        i += 1;
-    }
-    ROW * n
-}
-
-// Row i.
-pub fn row(rows: &[u64], i: usize) -> Task
-    requires { ⌜ i < length (tasksIn (now rows)) ⌝ }
-    ensures { λ r. ⌜ r ≡ taskAt (tasksIn (now (rows .entry))) i ⌝ }
-{
-    let at = ROW * i;
-    Task {
-        period: rows[at],
-        execution: rows[at + 1],
-        deadline: rows[at + 2],
-        jitter: rows[at + 3],
-        blocking: rows[at + 4],
-    }
-}
-
 // ⌈x / t⌉
 fn ceil_div(x: u64, t: u64) -> u64
     requires { ⌜ (1 ≤ t) × (x + t < 2 ^ 64) ⌝ }
@@ -109,16 +62,16 @@ fn interference(t: Task, w: u64) -> u64
 }
 
 // demand(w) of a base and of the tasks that are kept.
-fn demand(base: u64, rows: &[u64], kept: &[u8], w: u64) -> u64
+fn load_demand(base: u64, rows: &[u64], kept: &[u8], w: u64) -> u64
     requires { ⌜ IsLoad base (tasksIn (now rows)) (now kept) ⌝ }
     requires { ⌜ w ≤ maxPeriod ⌝ }
-    ensures { λ r. ⌜ r ≡ total base (tasksIn (now (rows .entry))) (now (kept .entry)) w ⌝ }
+    ensures { λ r. ⌜ r ≡ loadDemand base (tasksIn (now (rows .entry))) (now (kept .entry)) w ⌝ }
 {
     let n = kept.len();
     let mut sum = base;
     let mut k = 0;
     while k < n {
-        sum += interference(row(rows, kept[k] as usize), w);
+        sum += interference(task_in(rows, kept[k] as usize), w);
         k += 1;
     }
     sum
@@ -160,17 +113,17 @@ fn bound(fixed: u64, rate: u64) -> u64
 fn leap(base: u64, rows: &[u64], kept: &[u8], w: u64, reach: u64) -> u64
     requires { ⌜ IsLoad base (tasksIn (now rows)) (now kept) ⌝ }
     requires { ⌜ w ≤ maxPeriod ⌝ }
-    requires { ⌜ Bounds (total base (tasksIn (now rows)) (now kept)) w ⌝ }
-    requires { ⌜ Bounds (total base (tasksIn (now rows)) (now kept)) reach ⌝ }
+    requires { ⌜ Bounds (loadDemand base (tasksIn (now rows)) (now kept)) w ⌝ }
+    requires { ⌜ Bounds (loadDemand base (tasksIn (now rows)) (now kept)) reach ⌝ }
     ensures { λ r. ⌜ reach ≤ r ⌝ }
-    ensures bounds { λ r. ⌜ Bounds (total base (tasksIn (now (rows .entry))) (now (kept .entry))) r ⌝ }
+    ensures bounds { λ r. ⌜ Bounds (loadDemand base (tasksIn (now (rows .entry))) (now (kept .entry))) r ⌝ }
 {
     let n = kept.len();
     let mut fixed = base * SCALE;
     let mut rate = 0;
     let mut k = 0;
     while k < n {
-        let p = part_at(row(rows, kept[k] as usize), w, reach);
+        let p = part_at(task_in(rows, kept[k] as usize), w, reach);
         fixed += p.fixed;
         rate += p.rate;
         k += 1;
@@ -186,10 +139,10 @@ fn leap(base: u64, rows: &[u64], kept: &[u8], w: u64, reach: u64) -> u64
 fn next(base: u64, rows: &[u64], kept: &[u8], w: u64, needed: u64, leaps: bool) -> u64
     requires { ⌜ IsLoad base (tasksIn (now rows)) (now kept) ⌝ }
     requires { ⌜ w ≤ maxPeriod ⌝ }
-    requires { ⌜ Bounds (total base (tasksIn (now rows)) (now kept)) w ⌝ }
-    requires { ⌜ Bounds (total base (tasksIn (now rows)) (now kept)) needed ⌝ }
+    requires { ⌜ Bounds (loadDemand base (tasksIn (now rows)) (now kept)) w ⌝ }
+    requires { ⌜ Bounds (loadDemand base (tasksIn (now rows)) (now kept)) needed ⌝ }
     ensures { λ r. ⌜ needed ≤ r ⌝ }
-    ensures bounds { λ r. ⌜ Bounds (total base (tasksIn (now (rows .entry))) (now (kept .entry))) r ⌝ }
+    ensures bounds { λ r. ⌜ Bounds (loadDemand base (tasksIn (now (rows .entry))) (now (kept .entry))) r ⌝ }
 {
     if leaps {
         let near = leap(base, rows, kept, w, needed);
@@ -203,8 +156,8 @@ fn next(base: u64, rows: &[u64], kept: &[u8], w: u64, needed: u64, leaps: bool) 
 fn climb(base: u64, rows: &[u64], kept: &[u8], start: u64, room: u64) -> Window
     requires { ⌜ IsLoad base (tasksIn (now rows)) (now kept) ⌝ }
     requires { ⌜ room ≤ maxPeriod ⌝ }
-    requires { ⌜ start ≡ total base (tasksIn (now rows)) (now kept) 1 ⌝ }
-    ensures { λ r. ⌜ r ≡ windowOf (total base (tasksIn (now (rows .entry))) (now (kept .entry))) room ⌝ }
+    requires { ⌜ start ≡ loadDemand base (tasksIn (now rows)) (now kept) 1 ⌝ }
+    ensures { λ r. ⌜ r ≡ windowOf (loadDemand base (tasksIn (now (rows .entry))) (now (kept .entry))) room ⌝ }
 {
     let mut w = start;
     let mut round: u64 = 0;
@@ -212,7 +165,7 @@ fn climb(base: u64, rows: &[u64], kept: &[u8], start: u64, room: u64) -> Window
         if room < w {
             break Window::Beyond;
         }
-        let needed = demand(base, rows, kept, w);
+        let needed = load_demand(base, rows, kept, w);
         if needed <= w {
             break Window::At(w);
         }
@@ -224,13 +177,13 @@ fn climb(base: u64, rows: &[u64], kept: &[u8], start: u64, room: u64) -> Window
 
 // What task j adds to a load, for windows up to room: nothing unless it is above; to the base where it is released once.
 fn share(above: bool, rows: &[u64], j: usize, room: u64) -> Load
-    requires { ⌜ Rows (tasksIn (now rows)) ⌝ }
+    requires { ⌜ SoundTasks (tasksIn (now rows)) ⌝ }
     requires { ⌜ j < length (tasksIn (now rows)) ⌝ }
     requires { ⌜ room ≤ maxPeriod ⌝ }
     ensures { λ r. ⌜ r ≡ shareOf above (taskAt (tasksIn (now (rows .entry))) j) room ⌝ }
 {
     if above {
-        let t = row(rows, j);
+        let t = task_in(rows, j);
         if room + t.jitter <= t.period {
             return Load {
                 base: t.execution,
@@ -259,15 +212,15 @@ fn gather(
     room: u64,
     kept: &mut [u8],
 ) -> Load
-    requires { ⌜ Rows (tasksIn (now rows)) ⌝ }
+    requires { ⌜ SoundTasks (tasksIn (now rows)) ⌝ }
     requires { ⌜ task .0 < length (tasksIn (now rows)) ⌝ }
     requires { ⌜ room ≤ maxPeriod ⌝ }
     requires { ⌜ maxTasks ≤ length (now kept) ⌝ }
     ensures { λ r. ⌜ r .count ≤ length (now (kept .exit)) ⌝ }
     ensures stands { λ r. ⌜ StandsFor (tasksIn (now (rows .entry))) (task .0) (marked above) room (r .base) (take (r .count) (now (kept .exit))) (r .start) ⌝ }
 {
-    let n = rows.len() / ROW;
-    let own = row(rows, task.0);
+    let n = rows.len() / TASK_WORDS;
+    let own = task_in(rows, task.0);
     let mut base = own.blocking + own.execution;
     let mut start = base;
     let mut count = 0;
@@ -290,13 +243,13 @@ pub fn response_time(
     above: [bool; MAX_TASKS],
     limit: u64,
 ) -> Response
-    requires { ⌜ Rows (tasksIn (now rows)) ⌝ }
+    requires { ⌜ SoundTasks (tasksIn (now rows)) ⌝ }
     requires { ⌜ task .0 < length (tasksIn (now rows)) ⌝ }
     requires { ⌜ limit ≤ maxPeriod ⌝ }
     ensures { λ r. ⌜ r ≡ responseTime (tasksIn (now (rows .entry))) (task .0) (marked above) limit ⌝ }
     ensures says { λ r. ⌜ SaysResponse (tasksIn (now (rows .entry))) (task .0) (marked above) limit r ⌝ }
 {
-    let own = row(rows, task.0);
+    let own = task_in(rows, task.0);
     if limit < own.jitter {
         return Response::Late;
     }

@@ -1,11 +1,12 @@
 -- Tests over the numbers below a bound: all pass, the greatest that passes, how many pass.
 -- A set of numbers is a test, ℕ → Bool, of which only what lies below the bound counts. Assumes nothing.
-use mathlib.Core.Path.{_≡_, refl, sym, subst}
+use mathlib.Core.Path.{_≡_, refl}
 use mathlib.Core.Bool.{Bool, true, false, _&&_}
 use mathlib.Core.Logic.{⊎-elim}
 use mathlib.Core.Option.{Option, none, some}
 use Prim.Native.Nat.{ℕ, zero, suc, _+_, _≤_, _<_}
-use native.Mathlib.Nat.{not-suc-le-zero, le-of-suc-le-suc, eq-or-lt-of-le, le-refl, le-step, not-suc-le-self, lt-of-lt-of-le, add-le-add, add-lt-add-of-lt-of-le, add-lt-add-of-le-of-lt}
+use native.Mathlib.Nat.{not-suc-le-zero, le-of-suc-le-suc, eq-or-lt-of-le, le-refl, le-step, add-le-add}
+use native.Mathlib.Nat.{add-lt-add-of-lt-of-le, add-lt-add-of-le-of-lt}
 use native.Mathlib.Numerals.{add-one}
 use native.Mathlib.Omega.{arith}
 use lib.Dec.{T, eqb, eqb→eq, eqb-refl}
@@ -24,18 +25,14 @@ without-still A k j t = go (eqb k j) refl t
   where
     go : (b : Bool) → eqb k j ≡ b → T (pick b false (A j)) → T (A j) × (k ≡ j → ⊥)
     go true e s = absurd s
-    go false e s = (s, λ f. false→refuted (eqb k j) e (subst (λ (i : ℕ). T (eqb k i)) f (eqb-refl k)))
+    go false e s = (s, λ f. false→refuted (eqb k j) e (rw (← f) (eqb-refl k)))
 
 pub without-other : (A : ℕ → Bool) (k j : ℕ) → (k ≡ j → ⊥) → T (A j) → T (without A k j)
-without-other A k j apart t =
-    subst (λ (b : Bool). T (pick b false (A j))) (sym (refuted→false (eqb k j) (λ s. apart (eqb→eq k j s)))) t
+without-other A k j apart t = rw (refuted→false (eqb k j) (λ s. apart (eqb→eq k j s))) t
 
 -- what holds below n and at n holds below suc n
 pub below-suc : (P : ℕ → Type 0) (n : ℕ) → ((k : ℕ) → k < n → P k) → P n → (k : ℕ) → k < suc n → P k
-below-suc P n under at k h = ⊎-elim (λ e. subst P (ap-sym e) at) (λ l. under k l) (eq-or-lt-of-le (le-of-suc-le-suc h))
-  where
-    ap-sym : k ≡ n → n ≡ k
-    ap-sym e = omega arith
+below-suc P n under here k h = ⊎-elim (λ e. rw e here) (under k) (eq-or-lt-of-le (le-of-suc-le-suc h))
 
 -- ---- all
 
@@ -66,9 +63,7 @@ unfolding all
 all-more i p t e = rw add-one (and-intro (p i) (all i p) (true→T (p i) e) t)
 
 pub all-whole : (n i : ℕ) (p : ℕ → Bool) → i ≤ n → n ≤ i → T (all i p) → all n p ≡ true
-all-whole n i p under over t =
-    let e : i ≡ n = omega arith in
-    T→true (all n p) (subst (λ (m : ℕ). T (all m p)) e t)
+all-whole n i p under over t = let e : i ≡ n = omega arith in T→true (all n p) (rw e at t)
 
 pub all-next : (i : ℕ) (p : ℕ → Bool) → all (i + 1) p ≡ (p i && all i p)
 unfolding all
@@ -107,8 +102,8 @@ greatest-is zero p = nothing (λ k h. absurd (not-suc-le-zero h))
 greatest-is (suc n) p = go (p n) refl (greatest-is n p)
   where
     go : (b : Bool) → p n ≡ b → Greatest n p (greatest n p) → Greatest (suc n) p (pick b (some n) (greatest n p))
-    go true at g = found n (record { below = le-refl (suc n); passes = true→T (p n) at; last = λ j h l. absurd (not-suc-le-self j (lt-of-lt-of-le h l)) })
-    go false at g = greater n p (greatest n p) (false→refuted (p n) at) g
+    go true e g = found n (record { below = le-refl (suc n); passes = true→T (p n) e; last = λ j h l. absurd (omega arith) })
+    go false e g = greater n p (greatest n p) (false→refuted (p n) e) g
 
 -- a loop that counts down: one that passes, and one that doesn't
 pub greatest-at : (i : ℕ) (p : ℕ → Bool) → p i ≡ true → greatest (suc i) p ≡ some i
@@ -152,8 +147,8 @@ count-less (suc n) B A w k h a b =
 
     at-n : k ≡ n → count (suc n) B < count (suc n) A
     at-n e =
-        let a′ = T→true (A n) (subst (λ (m : ℕ). T (A m)) e a) in
-        let b′ = refuted→false (B n) (subst (λ (m : ℕ). T (B m) → ⊥) e b) in
+        let a′ = T→true (A n) (rw e at a) in
+        let b′ = refuted→false (B n) (rw e at b) in
         rw (a′, b′) (add-lt-add-of-le-of-lt (count-mono n B A under) (le-refl 1))
 
 -- a set with at most the one member k more has at most one more
@@ -172,13 +167,14 @@ count-but (suc n) B A k w = ⊎-elim at-n (beside (count-but n B A k (λ j h. w 
 
     beside : count n A ≤ suc (count n B) → (T (eqb n k) → ⊥) → count (suc n) A ≤ suc (count (suc n) B)
     beside below apart =
-        let step = step-le (B n) (A n) (λ a. w n (le-refl (suc n)) a (λ e. apart (subst (λ (m : ℕ). T (eqb n m)) e (eqb-refl n)))) in
+        let step = step-le (B n) (A n) (λ a. w n (le-refl (suc n)) a (λ e. apart (rw (← e) (eqb-refl n)))) in
         omega arith
 
 pub count-whole : (n : ℕ) (A : ℕ → Bool) → ((j : ℕ) → j < n → T (A j)) → count n A ≡ n
 unfolding count
 count-whole zero A each = refl
-count-whole (suc n) A each = rw (count-whole n A (λ j h. each j (le-step h)), T→true (A n) (each n (le-refl (suc n)))) (add-one n)
+count-whole (suc n) A each =
+    rw (count-whole n A (λ j h. each j (le-step h)), T→true (A n) (each n (le-refl (suc n)))) (add-one n)
 
 -- there is a member exactly when they number more than 0
 pub count-some : (n : ℕ) (A : ℕ → Bool) → 0 < count n A → (k : ℕ) × (k < n) × T (A k)

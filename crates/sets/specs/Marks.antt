@@ -1,6 +1,6 @@
 -- An array of marks as a set of indices. Assumes nothing.
 use mathlib.Core.Path.{_≡_, refl, sym, ap, _∙_, fun-ext}
-use mathlib.Core.Bool.{Bool, true, false, _&&_}
+use mathlib.Core.Bool.{Bool, true, false}
 use mathlib.Core.List.{List, [], _∷_}
 use mathlib.Core.Logic.{⊎-elim}
 use Prim.Native.Nat.{ℕ, zero, suc, _+_, _≤_, _<_}
@@ -59,24 +59,6 @@ pub marked-first : (marks : List Bool) (k : ℕ) → k < length marks → marked
     → marked (set marks k true) ≡ first (k + 1)
 marked-first marks k h e =
     fun-ext (λ j. marked-store marks k true h j ∙ ap (λ (f : ℕ → Bool). pick (eqb k j) true (f j)) e ∙ first-next k j)
-
--- ---- the first n that pass a test, marked one by one
-
-abbrev pub firstWith : ℕ → (ℕ → Bool) → ℕ → Bool
-firstWith n p j = first n j && p j
-
-module _ (p : ℕ → Bool) where
-  pub marked-none-of : (n : ℕ) → marked (replicate n false) ≡ firstWith 0 p
-  marked-none-of n = marked-first-none n ∙ fun-ext (λ j. rw (le-ltb j 0 (omega arith)))
-
-  pub marked-next : (marks : List Bool) (k : ℕ) → marked marks ≡ firstWith k p → k < length marks → (b : Bool) → b ≡ p k
-      → marked (set marks k b) ≡ firstWith (k + 1) p
-  marked-next marks k e h b t =
-      fun-ext (λ j. marked-store marks k b h j ∙ go j (eqb k j) refl ∙ ap (λ (c : Bool). c && p j) (first-next k j))
-    where
-      go : (j : ℕ) (c : Bool) → eqb k j ≡ c → pick c b (marked marks j) ≡ (pick c true (first k j) && p j)
-      go j true f = t ∙ ap p (eqb-true k j f)
-      go j false f = ap (λ (a : ℕ → Bool). a j) e
 
 -- ---- the first n values of a function, as a list
 

@@ -1,5 +1,5 @@
 -- Bytes written into the front of a buffer, and more of them into the rest of it. Assumes nothing.
-use mathlib.Core.Path.{_≡_, sym, ap, ap₂, _∙_}
+use mathlib.Core.Path.{_≡_, refl, sym, ap, _∙_}
 use mathlib.Core.List.{List, [], _∷_, _++_, append-assoc, append-nil}
 use Prim.Native.Nat.{ℕ, suc, _+_, _-_, _≤_, _<_}
 use native.Mathlib.Omega.{arith}
@@ -13,17 +13,12 @@ onto bytes buffer = bytes ++ drop (length bytes) buffer
 -- as many as were written stand in front
 pub front-count : (bytes buffer xs : List ℕ) (n : ℕ) → n ≡ length bytes → xs ≡ onto bytes buffer
     → (n ≤ length xs) × (n ≡ length (take n xs))
-front-count bytes buffer xs n e f = (
-  omega (arith, e, ap length f, length-append bytes (drop (length bytes) buffer)),
-  e ∙ ap length (sym (ap₂ (λ (k : ℕ) (l : List ℕ). take k l) e f ∙ take-append-seam bytes (drop (length bytes) buffer))),
-)
+front-count bytes buffer xs n e f =
+    rw (f, e) (simp length-append (omega arith), ap length (sym (take-append-seam bytes (drop (length bytes) buffer))))
 
 -- more, into the rest of the buffer
 pub onto-more : (xs ys buffer : List ℕ) → xs ++ onto ys (drop (length xs) buffer) ≡ onto (xs ++ ys) buffer
-onto-more xs ys buffer =
-    ap (λ (zs : List ℕ). xs ++ (ys ++ zs))
-    (drop-drop (length ys) (length xs) buffer ∙ ap (λ (k : ℕ). drop k buffer) (sym (length-append xs ys)))
-    ∙ sym (append-assoc xs ys (drop (length (xs ++ ys)) buffer))
+onto-more xs ys buffer = simp (append-assoc, length-append, drop-drop)
 
 -- ---- a lent tail
 
@@ -38,6 +33,14 @@ withTail at xs ys = take at xs ++ (ys ++ drop (length xs - at) (drop at xs))
 pub record Front (bytes buffer : List ℕ) (at : ℕ) (xs : List ℕ) : Type 0 where
   pub count : at ≡ length bytes
   pub list : xs ≡ onto bytes buffer
+
+-- nothing yet
+pub front-none : {buffer : List ℕ} → Front [] buffer 0 buffer
+front-none = record { count = refl; list = refl }
+
+-- said of equal bytes
+pub front-as : {bytes same buffer xs : List ℕ} {at : ℕ} → bytes ≡ same → Front bytes buffer at xs → Front same buffer at xs
+front-as e f = rw (← e) f
 
 module _ {bytes buffer xs : List ℕ} {at : ℕ} (f : Front bytes buffer at xs) where
   -- they lie inside
@@ -70,10 +73,8 @@ module _ {bytes buffer xs : List ℕ} {at : ℕ} (f : Front bytes buffer at xs) 
   tail-back {more} {ys} g = record {
     count = omega (arith, f .count, g .count, length-append bytes more);
     list =
-        ap₂ (λ (front rest : List ℕ). front ++ rest)
-        (ap (take at) (f .list) ∙ take-at bytes (drop (length bytes) buffer) at (sym (f .count)))
-        (ap (λ (rest : List ℕ). ys ++ rest) tail-last ∙ append-nil ys ∙ g .list ∙ ap (onto more) tail-kept)
-        ∙ onto-more bytes more buffer;
+        let front : take at xs ≡ bytes = rw (f .list) (take-at bytes (drop (length bytes) buffer) at (sym (f .count))) in
+        rw (front, tail-last, append-nil, g .list, tail-kept) (onto-more bytes more buffer);
   }
 
 -- ---- a store
@@ -81,5 +82,4 @@ module _ {bytes buffer xs : List ℕ} {at : ℕ} (f : Front bytes buffer at xs) 
 -- what stands from a place on after a store there
 pub drop-store : (l : List ℕ) (i a : ℕ) → i < length l → drop i (set l i a) ≡ a ∷ drop (suc i) l
 drop-store l i a h =
-    drop-cons (set l i a) i 0 (omega (arith, length-set l i a))
-    ∙ ap₂ (λ (x : ℕ) (r : List ℕ). x ∷ r) (getD-set-same l i a 0 h) (drop-set-lt (suc i) l i a (omega arith))
+    rw (drop-cons (set l i a) i 0 (simp length-set h), getD-set-same l i a 0 h, drop-set-lt (suc i) l i a (omega arith))

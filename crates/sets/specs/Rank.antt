@@ -1,5 +1,5 @@
 -- Where a number first stands in a list: its rank, the list's length where it does not stand there. Assumes nothing.
-use mathlib.Core.Path.{_≡_, refl, sym, ap, subst, _∙_}
+use mathlib.Core.Path.{_≡_, refl, sym, ap, _∙_}
 use mathlib.Core.Bool.{Bool, true, false}
 use mathlib.Core.List.{List, [], _∷_}
 use mathlib.Core.Logic.{⊎-elim}
@@ -65,5 +65,5 @@ pub rank-drop : (xs : List ℕ) (k x : ℕ) → Member xs x → k ≤ rank xs x 
 rank-drop xs k x m h =
     let r = rank xs x - k in
     let e : k + r ≡ rank xs x = omega arith in
-    let here : getD (drop k xs) r 0 ≡ x = getD-drop k xs r 0 ∙ ap (λ (i : ℕ). getD xs i 0) e ∙ getD-rank xs x m in
-    subst (Member (drop k xs)) here (getD-member (drop k xs) r (omega (arith, length-drop k xs)))
+    let here : getD (drop k xs) r 0 ≡ x = rw (getD-drop k xs r 0, e) (getD-rank xs x m) in
+    rw here at (getD-member (drop k xs) r (omega (arith, length-drop k xs)))

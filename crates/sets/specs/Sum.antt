@@ -1,5 +1,5 @@
 -- Sums over a marked set of the numbers below a bound. Assumes nothing.
-use mathlib.Core.Path.{_≡_, refl, sym, subst}
+use mathlib.Core.Path.{_≡_, refl, sym}
 use mathlib.Core.Bool.{Bool, true, false}
 use Prim.Native.Nat.{ℕ, zero, suc, _+_, _*_, _≤_, _<_}
 use native.Mathlib.Nat.{le-refl, le-step, le-antisymm, le-of-eq, add-le-add, mul-zero, zero-mul, suc-mul, mul-add}
@@ -34,9 +34,7 @@ sum-turn total base j above f x e k = omega (arith, sum-more j above f)
 
 pub sum-end : (total base j n : ℕ) (above : ℕ → Bool) (f : ℕ → ℕ) → total ≡ base + sum j above f → j ≤ n → n ≤ j
     → total ≡ base + sum n above f
-sum-end total base j n above f e under over =
-    let h : j ≡ n = omega arith in
-    subst (λ (m : ℕ). total ≡ base + sum m above f) h e
+sum-end total base j n above f e under over = let h : j ≡ n = omega arith in rw h at e
 
 term-mono : (b a : Bool) (x y : ℕ) → (T b → T a) → (T b → x ≤ y) → pick b x 0 ≤ pick a y 0
 term-mono true true x y f g = g tt

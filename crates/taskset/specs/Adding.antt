@@ -1,33 +1,39 @@
--- Document 01, "Calls on a sheet" and refusal 14: a fresh task set, adding a task, adding a rule. Assumes nothing.
+-- Document 01, "Calls on a sheet" and refusal 14: the task set that holds two lists, adding to it, and lists of adding calls.
+-- Assumes nothing.
+use mathlib.Core.Path.{_≡_}
 use mathlib.Core.Bool.{Bool, _&&_}
-use mathlib.Core.List.{List}
-use Prim.Native.Nat.{ℕ, _+_}
+use mathlib.Core.List.{List, [], _∷_}
+use Prim.Native.Nat.{ℕ}
 use lib.Dec.{leb, ltb, eqb}
-use lib.ListN.{getD, take, set, replicate}
+use lib.ListN.{length, getD, take}
 use Rattle.sets.specs.Choice.{pick}
 use Rattle.sets.specs.Bounded.{all}
+use Rattle.sets.specs.Pad.{pad}
 use Rattle.taskset.specs.declared.Task.{Task}
 use Rattle.taskset.specs.declared.Rule.{Rule}
 use Rattle.taskset.specs.declared.TaskSet.{TaskSet}
+use Rattle.taskset.specs.declared.Call.{Call}
+use Rattle.taskset.specs.declared.Call.the-variants.{AddTask, AddRule}
 use Rattle.taskset.specs.declared.Added.{Added}
-use Rattle.taskset.specs.Rows.{maxTasks, maxRules, firstOf, rowRefusals, indexRefusals, taskRefusal, ruleRefusal}
+use Rattle.taskset.specs.Refusals.{maxTasks, maxRules, entryFits}
+use Rattle.taskset.specs.Model.{Lists, noLists, refusalOf, extended, blankTask, blankRule}
 
--- an unused entry is all zeros
-abbrev pub blankTask : Task
-blankTask = record { period = 0; execution = 0; deadline = 0; jitter = 0; blocking = 0 }
+-- the set that holds these lists: unused entries are all zeros
+abbrev pub holding : Lists → TaskSet
+holding l =
+    record {
+      tasks = pad maxTasks blankTask (l .tasks);
+      ntasks = length (l .tasks);
+      rules = pad maxRules blankRule (l .rules);
+      nrules = length (l .rules);
+    }
 
-abbrev pub blankRule : Rule
-blankRule = record { higher = record { 0 = 0 }; lower = record { 0 = 0 } }
+-- the lists in a set: the used entries
+abbrev pub lists : TaskSet → Lists
+lists s = record { tasks = take (s .ntasks) (s .tasks); rules = take (s .nrules) (s .rules) }
 
 abbrev pub freshSet : TaskSet
-freshSet = record { tasks = replicate maxTasks blankTask; ntasks = 0; rules = replicate maxRules blankRule; nrules = 0 }
-
--- the used entries: all that the theory sees of a set
-abbrev pub rows : TaskSet → List Task
-rows s = take (s .ntasks) (s .tasks)
-
-abbrev pub rules : TaskSet → List Rule
-rules s = take (s .nrules) (s .rules)
+freshSet = holding noLists
 
 -- ---- refusal 14
 
@@ -37,12 +43,12 @@ isBlankTask t = eqb (t .period) 0 && eqb (t .execution) 0 && eqb (t .deadline) 0
 abbrev pub isBlankRule : Rule → Bool
 isBlankRule r = eqb (r .higher .0) 0 && eqb (r .lower .0) 0
 
--- a used entry is a row or a rule that adding takes, an unused one is all zeros
-unfoldable pub taskFits : Bool → Task → Bool
-taskFits used t = pick used (eqb (firstOf (rowRefusals t)) 0) (isBlankTask t)
+-- a used entry is one that adding takes, an unused one is all zeros; in a set of n tasks and m rules
+unfoldable pub taskFits : ℕ → ℕ → Bool → Task → Bool
+taskFits n m used t = pick used (entryFits n m (AddTask t)) (isBlankTask t)
 
-unfoldable pub ruleFits : ℕ → Bool → Rule → Bool
-ruleFits n used r = pick used (eqb (firstOf (indexRefusals n r)) 0) (isBlankRule r)
+unfoldable pub ruleFits : ℕ → ℕ → Bool → Rule → Bool
+ruleFits n m used r = pick used (entryFits n m (AddRule r)) (isBlankRule r)
 
 -- entry i of an array of which n entries are used
 abbrev pub entry : {A : Type 0} → (Bool → A → Bool) → A → ℕ → List A → ℕ → Bool
@@ -53,28 +59,24 @@ unfoldable pub isMade : TaskSet → Bool
 isMade s =
     leb (s .ntasks) maxTasks
     && leb (s .nrules) maxRules
-    && all maxTasks (entry taskFits blankTask (s .ntasks) (s .tasks))
-    && all maxRules (entry (ruleFits (s .ntasks)) blankRule (s .nrules) (s .rules))
+    && all maxTasks (entry (taskFits (s .ntasks) (s .nrules)) blankTask (s .ntasks) (s .tasks))
+    && all maxRules (entry (ruleFits (s .ntasks) (s .nrules)) blankRule (s .nrules) (s .rules))
 
--- ---- adding
+-- ---- a call, and lists of calls
 
--- the set with one entry more, the last
-abbrev pub withTask : TaskSet → Task → TaskSet
-withTask s t =
-    record { tasks = set (s .tasks) (s .ntasks) t; ntasks = s .ntasks + 1; rules = s .rules; nrules = s .nrules }
+-- refused: the number, and the set as it was; taken: 0, and the set that holds the longer lists
+abbrev pub answering : TaskSet → ℕ → TaskSet → Added
+answering s k new = record { refusal = k; set = pick (eqb k 0) new s }
 
-abbrev pub withRule : TaskSet → Rule → TaskSet
-withRule s r =
-    record { tasks = s .tasks; ntasks = s .ntasks; rules = set (s .rules) (s .nrules) r; nrules = s .nrules + 1 }
+-- 14 first, then the refusal of the call
+unfoldable pub add : TaskSet → Call → Added
+add s c = answering s (pick (isMade s) (refusalOf (lists s) c) 14) (holding (extended (lists s) c))
 
--- an adding call on s that would make `new`: 14 first, then a refusal of the arguments or 0
-unfoldable pub adding : TaskSet → ℕ → TaskSet → Added
-adding s refusal new =
-    let n = pick (isMade s) refusal 14 in
-    record { refusal = n; set = pick (eqb n 0) new s }
+-- each call is handed the set that the one before handed back, after a refusal too
+unfoldable pub run : TaskSet → List Call → TaskSet
+run s [] = s
+run s (c ∷ cs) = run (add s c .set) cs
 
-abbrev pub addTask : TaskSet → Task → Added
-addTask s t = adding s (taskRefusal (s .ntasks) t) (withTask s t)
-
-abbrev pub addRule : TaskSet → Rule → Added
-addRule s r = adding s (ruleRefusal (s .ntasks) (s .nrules) r) (withRule s r)
+-- some list of adding calls from a fresh set makes this very set
+unfoldable pub Made : TaskSet → Type 0
+Made s = (calls : List Call) × (run freshSet calls ≡ s)

@@ -1,6 +1,10 @@
-pub mod Rows
+pub mod Refusals
+pub mod Model
 pub mod Adding
-pub mod Calls
-pub mod Laws
+pub mod Words
+pub mod RefusalLaws
 pub mod Holding
+pub mod Passing
 pub mod Exact
+pub mod AddingLaws
+pub mod WordsLaws

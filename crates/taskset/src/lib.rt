@@ -1,12 +1,27 @@
 // Task sets: document 01's sheet, with adding a task and a rule, and refusal 14.
 
+mod words;
+
 ghost use mathlib.Core.Path.{_≡_};
 ghost use mathlib.Core.Bool.{true};
 ghost use mathlib.Core.Logic.{_↔_};
 ghost use Rattle.sets.specs.Bounded.{all};
-ghost use Rattle.taskset.specs.Rows.{maxTasks, maxRules, firstOf, outside, rowRefusals, indexRefusals, taskRefusal, ruleRefusal};
-ghost use Rattle.taskset.specs.Adding.{blankTask, blankRule, freshSet, isBlankTask, isBlankRule, taskFits, ruleFits, entry, isMade, addTask, addRule};
-ghost use Rattle.taskset.specs.Calls.{Made};
+ghost use Rattle.taskset.specs.declared.Call.the-variants.{AddTask, AddRule};
+ghost use Rattle.taskset.specs.Refusals.{maxTasks, maxRules, firstOf, outside, rowRefusals, indexRefusals, refusalBy};
+ghost use Rattle.taskset.specs.Model.{blankTask, blankRule};
+ghost use Rattle.taskset.specs.Adding.{freshSet, isBlankTask, isBlankRule, taskFits, ruleFits, entry, isMade, add, Made};
+pub use words::MAX_RULE_WORDS;
+pub use words::MAX_TASK_WORDS;
+pub use words::RULE_WORDS;
+pub use words::TASK_WORDS;
+pub use words::hold;
+pub use words::put_rule;
+pub use words::put_task;
+pub use words::rule_from;
+pub use words::rule_in;
+pub use words::task_from;
+pub use words::task_in;
+pub use words::write_words;
 
 pub const MAX_TASKS: usize = 64;
 
@@ -34,6 +49,20 @@ pub struct Rule {
     pub higher: TaskIndex,
     pub lower: TaskIndex,
 }
+
+// What stands in an unused entry.
+const BLANK_TASK: Task = Task {
+    period: 0,
+    execution: 0,
+    deadline: 0,
+    jitter: 0,
+    blocking: 0,
+};
+
+const BLANK_RULE: Rule = Rule {
+    higher: TaskIndex(0),
+    lower: TaskIndex(0),
+};
 
 // Document 01's sheet: the first ntasks tasks and the first nrules rules are used, the others are all zeros.
 pub struct TaskSet {
@@ -100,32 +129,32 @@ fn index_refusal(n: usize, r: Rule) -> u64
     0
 }
 
-// The refusal of a task added to n tasks: 1 to 5, then 10; 0 where it is taken.
-pub fn task_refusal(n: usize, t: Task) -> u64
-    ensures { λ r. ⌜ r ≡ taskRefusal n t ⌝ }
+// The refusal of a call to a set of n tasks and m rules, 0 where it is taken: 1 to 5, then 10; or 6, 11, then 12.
+pub fn refusal(n: usize, m: usize, call: Call) -> u64
+    ensures { λ r. ⌜ r ≡ refusalBy n m call ⌝ }
 {
-    let refusal = row_refusal(t);
-    if refusal != 0 {
-        return refusal;
+    match call {
+        Call::AddTask(task) => {
+            let refusal = row_refusal(task);
+            if refusal != 0 {
+                return refusal;
+            }
+            if MAX_TASKS <= n {
+                return 10;
+            }
+            0
+        }
+        Call::AddRule(rule) => {
+            let refusal = index_refusal(n, rule);
+            if refusal != 0 {
+                return refusal;
+            }
+            if MAX_RULES <= m {
+                return 12;
+            }
+            0
+        }
     }
-    if MAX_TASKS <= n {
-        return 10;
-    }
-    0
-}
-
-// The refusal of a rule added to n tasks and m rules: 6, 11, then 12; 0 where it is taken.
-pub fn rule_refusal(n: usize, m: usize, r: Rule) -> u64
-    ensures { λ q. ⌜ q ≡ ruleRefusal n m r ⌝ }
-{
-    let refusal = index_refusal(n, r);
-    if refusal != 0 {
-        return refusal;
-    }
-    if MAX_RULES <= m {
-        return 12;
-    }
-    0
 }
 
 // All zeros.
@@ -142,8 +171,8 @@ fn is_blank_rule(r: Rule) -> bool
 }
 
 // An entry of the task list: a row that adding takes where it is used, all zeros where it is not.
-fn task_fits(used: bool, t: Task) -> bool
-    ensures { λ r. ⌜ r ≡ taskFits used t ⌝ }
+fn task_fits(n: usize, m: usize, used: bool, t: Task) -> bool
+    ensures { λ r. ⌜ r ≡ taskFits n m used t ⌝ }
 {
     if used {
         return row_refusal(t) == 0;
@@ -151,8 +180,8 @@ fn task_fits(used: bool, t: Task) -> bool
     is_blank_task(t)
 }
 
-fn rule_fits(n: usize, used: bool, r: Rule) -> bool
-    ensures { λ q. ⌜ q ≡ ruleFits n used r ⌝ }
+fn rule_fits(n: usize, m: usize, used: bool, r: Rule) -> bool
+    ensures { λ q. ⌜ q ≡ ruleFits n m used r ⌝ }
 {
     if used {
         return index_refusal(n, r) == 0;
@@ -160,13 +189,13 @@ fn rule_fits(n: usize, used: bool, r: Rule) -> bool
     is_blank_rule(r)
 }
 
-// Every entry of a task list of which the first n are used.
-fn task_entries(tasks: [Task; MAX_TASKS], n: usize) -> bool
-    ensures { λ r. ⌜ r ≡ all maxTasks (entry taskFits blankTask n tasks) ⌝ }
+// Every entry of a task list, of a rule list, in a set that says it has n tasks and m rules.
+fn task_entries(tasks: [Task; MAX_TASKS], n: usize, m: usize) -> bool
+    ensures { λ r. ⌜ r ≡ all maxTasks (entry (taskFits n m) blankTask n tasks) ⌝ }
 {
     let mut i = 0;
     while i < MAX_TASKS {
-        if !task_fits(i < n, tasks[i]) {
+        if !task_fits(n, m, i < n, tasks[i]) {
             return false;
         }
         i += 1;
@@ -174,13 +203,12 @@ fn task_entries(tasks: [Task; MAX_TASKS], n: usize) -> bool
     true
 }
 
-// Every entry of a rule list of which the first m are used, over n tasks.
 fn rule_entries(rules: [Rule; MAX_RULES], n: usize, m: usize) -> bool
-    ensures { λ r. ⌜ r ≡ all maxRules (entry (ruleFits n) blankRule m rules) ⌝ }
+    ensures { λ r. ⌜ r ≡ all maxRules (entry (ruleFits n m) blankRule m rules) ⌝ }
 {
     let mut i = 0;
     while i < MAX_RULES {
-        if !rule_fits(n, i < m, rules[i]) {
+        if !rule_fits(n, m, i < m, rules[i]) {
             return false;
         }
         i += 1;
@@ -193,21 +221,10 @@ impl TaskSet {
     pub fn fresh() -> TaskSet
         ensures { λ r. ⌜ r ≡ freshSet ⌝ }
     {
-        let task = Task {
-            period: 0,
-            execution: 0,
-            deadline: 0,
-            jitter: 0,
-            blocking: 0,
-        };
-        let rule = Rule {
-            higher: TaskIndex(0),
-            lower: TaskIndex(0),
-        };
         TaskSet {
-            tasks: [task; MAX_TASKS],
+            tasks: [BLANK_TASK; MAX_TASKS],
             ntasks: 0,
-            rules: [rule; MAX_RULES],
+            rules: [BLANK_RULE; MAX_RULES],
             nrules: 0,
         }
     }
@@ -221,33 +238,12 @@ impl TaskSet {
         let m = self.nrules;
         let tasks = self.tasks;
         let rules = self.rules;
-        (n <= MAX_TASKS) & (m <= MAX_RULES) & task_entries(tasks, n) & rule_entries(rules, n, m)
+        (n <= MAX_TASKS) & (m <= MAX_RULES) & task_entries(tasks, n, m) & rule_entries(rules, n, m)
     }
 
-    // Refusals 14, 1 to 5, 10.
-    pub fn add_task(self, task: Task) -> Added
-        ensures { λ r. ⌜ r ≡ addTask self task ⌝ }
-    {
-        if !self.is_made() {
-            return Added {
-                refusal: 14,
-                set: self,
-            };
-        }
-        let n = self.ntasks;
-        let refusal = task_refusal(n, task);
-        if refusal != 0 {
-            return Added { refusal, set: self };
-        }
-        let mut set = self;
-        set.tasks[n] = task;
-        set.ntasks = n + 1;
-        Added { refusal: 0, set }
-    }
-
-    // Refusals 14, 6, 11, 12.
-    pub fn add_rule(self, rule: Rule) -> Added
-        ensures { λ r. ⌜ r ≡ addRule self rule ⌝ }
+    // An adding call: refusal 14, then those of the call.
+    pub fn add(self, call: Call) -> Added
+        ensures { λ r. ⌜ r ≡ add self call ⌝ }
     {
         if !self.is_made() {
             return Added {
@@ -257,13 +253,35 @@ impl TaskSet {
         }
         let n = self.ntasks;
         let m = self.nrules;
-        let refusal = rule_refusal(n, m, rule);
+        let refusal = refusal(n, m, call);
         if refusal != 0 {
             return Added { refusal, set: self };
         }
         let mut set = self;
-        set.rules[m] = rule;
-        set.nrules = m + 1;
+        match call {
+            Call::AddTask(task) => {
+                set.tasks[n] = task;
+                set.ntasks = n + 1;
+            }
+            Call::AddRule(rule) => {
+                set.rules[m] = rule;
+                set.nrules = m + 1;
+            }
+        }
         Added { refusal: 0, set }
+    }
+
+    // Refusals 14, 1 to 5, 10.
+    pub fn add_task(self, task: Task) -> Added
+        ensures { λ r. ⌜ r ≡ add self (AddTask task) ⌝ }
+    {
+        self.add(Call::AddTask(task))
+    }
+
+    // Refusals 14, 6, 11, 12.
+    pub fn add_rule(self, rule: Rule) -> Added
+        ensures { λ r. ⌜ r ≡ add self (AddRule rule) ⌝ }
+    {
+        self.add(Call::AddRule(rule))
     }
 }

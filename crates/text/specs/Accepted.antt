@@ -11,51 +11,28 @@ use lib.ListN.{length, getD, drop, length-map, drop-of-length-le}
 use lib.Seq.{drop-cons}
 use borrow.Author.Tests.{ne-eqb, eqb-true}
 use Rattle.sets.specs.Choice.{T→true, true→T, and-left, and-right}
-use Rattle.decimal.specs.Decimal.{tab, maxDigits, isDigit, areDigits, value, isNumber, decimal}
-use Rattle.decimal.specs.Reading.{number-good}
-use Rattle.decimal.specs.ReadBack.{decimal-digits, read-back, number-exactly}
+use Rattle.lines.specs.Decimal.{tab, maxDigits, isDigit, areDigits, value, isNumber, decimal}
+use Rattle.lines.specs.Parts.{parts, join}
+use Rattle.lines.specs.Reading.{number-good}
+use Rattle.lines.specs.ReadBack.{decimal-digits, read-back, number-exactly}
+use Rattle.lines.specs.PartsLaws.{join-parts, Clear, AllClear, parts-join}
 use Rattle.taskset.specs.declared.Task.{Task}
 use Rattle.taskset.specs.declared.Rule.{Rule}
 use Rattle.taskset.specs.declared.Call.the-variants.{AddTask, AddRule}
-use Rattle.taskset.specs.Calls.{taskIn, ruleIn}
+use Rattle.taskset.specs.Words.{taskWords, taskOf, ruleWords, ruleOf, taskSize, ruleSize}
 use Rattle.text.specs.declared.Line.{Line}
 use Rattle.text.specs.declared.Line.the-variants.{Asks}
-use Rattle.text.specs.Parts.{parts}
-use Rattle.text.specs.PartsLaws.{join, join-parts, Clear, AllClear, parts-join}
 use Rattle.text.specs.LineLaws.{asks}
-use Rattle.text.specs.Text.{letterT, letterR, isLetter, areNumbers, hasForm, asked, lineIn}
+use Rattle.text.specs.Text.{letterT, letterR, isLetter, areNumbers, hasForm, valuesIn, asked, lineIn}
 
--- the fields of a task's line, and of a rule's
-abbrev pub taskFields : Task → List (List ℕ)
-taskFields t =
-    (letterT ∷ [])
-    ∷ decimal (t .execution)
-    ∷ decimal (t .period)
-    ∷ decimal (t .deadline)
-    ∷ decimal (t .jitter)
-    ∷ decimal (t .blocking)
-    ∷ []
-
-abbrev pub ruleFields : Rule → List (List ℕ)
-ruleFields r = (letterR ∷ []) ∷ decimal (r .higher .0) ∷ decimal (r .lower .0) ∷ []
-
--- and the numbers of both
-abbrev pub taskNumbers : Task → List ℕ
-taskNumbers t = t .execution ∷ t .period ∷ t .deadline ∷ t .jitter ∷ t .blocking ∷ []
-
-abbrev pub ruleNumbers : Rule → List ℕ
-ruleNumbers r = r .higher .0 ∷ r .lower .0 ∷ []
+-- the fields of a line: a letter, and numbers in decimal
+abbrev pub lettered : ℕ → List ℕ → List (List ℕ)
+lettered letter ns = (letter ∷ []) ∷ map decimal ns
 
 -- numbers of at most 7 digits
 abbrev pub Short : List ℕ → Type 0
 Short [] = Unit {0}
 Short (n ∷ ns) = (n < 10 ^ maxDigits) × Short ns
-
-abbrev pub TaskShort : Task → Type 0
-TaskShort t = Short (taskNumbers t)
-
-abbrev pub RuleShort : Rule → Type 0
-RuleShort r = Short (ruleNumbers r)
 
 -- ---- fields that are numbers
 
@@ -91,26 +68,23 @@ numbers-clear (n ∷ ns) = (digits-clear (decimal n) (decimal-digits n), numbers
 
 -- ---- a letter and numbers
 
-abbrev lettered : ℕ → List ℕ → List (List ℕ)
-lettered letter ns = (letter ∷ []) ∷ map decimal ns
-
 letter-alone : (letter : ℕ) (f : List ℕ) → T (isLetter letter f) → f ≡ letter ∷ []
 letter-alone letter [] t = absurd t
 letter-alone letter (b ∷ []) t = ap (λ (c : ℕ). c ∷ []) (eqb-true b letter (T→true (eqb b letter) t))
 letter-alone letter (b ∷ c ∷ bs) t = absurd t
 
--- the k entries from place i on; they are all the rest, where there are no more
-abbrev entries : ℕ → ℕ → List ℕ → List ℕ
-entries i zero vs = []
-entries i (suc k) vs = getD vs i 0 ∷ entries (suc i) k vs
+-- the k values from place i on; they are all the rest, where there are no more
+abbrev valuesFrom : ℕ → ℕ → List ℕ → List ℕ
+valuesFrom i zero vs = []
+valuesFrom i (suc k) vs = getD vs i 0 ∷ valuesFrom (suc i) k vs
 
-entries-all : (i k : ℕ) (vs : List ℕ) → length vs ≡ i + k → drop i vs ≡ entries i k vs
-entries-all i zero vs e = let none : length vs ≤ i = omega arith in drop-of-length-le vs none
-entries-all i (suc k) vs e = rw (drop-cons vs i 0 (omega arith), entries-all (suc i) k vs (omega arith))
+values-all : (i k : ℕ) (vs : List ℕ) → length vs ≡ i + k → drop i vs ≡ valuesFrom i k vs
+values-all i zero vs e = let none : length vs ≤ i = omega arith in drop-of-length-le vs none
+values-all i (suc k) vs e = rw (drop-cons vs i 0 (omega arith), values-all (suc i) k vs (omega arith))
 
 module _ (letter : ℕ) (ns : List ℕ) where
-  -- fields of this form, whose values after the first are these
-  form-read : (k : ℕ) (fs : List (List ℕ)) → hasForm letter k fs ≡ true → entries 1 k (map value fs) ≡ ns
+  -- fields of this form, whose values are these
+  form-read : (k : ℕ) (fs : List (List ℕ)) → hasForm letter k fs ≡ true → valuesFrom 0 k (valuesIn fs) ≡ ns
       → (fs ≡ lettered letter ns) × Short ns
   unfolding hasForm
   form-read k [] e same = absurd (false≢true e)
@@ -119,8 +93,8 @@ module _ (letter : ℕ) (ns : List ℕ) where
       let alone : T (isLetter letter f) = search (and-left, and-right) in
       let many : T (eqb (length fs) k) = search (and-left, and-right) in
       let read = numbers-read fs (and-right (isLetter letter f && eqb (length fs) k) (areNumbers fs) t) in
-      let long : length (map value (f ∷ fs)) ≡ 1 + k = omega (arith, length-map fs value, eqb→eq (length fs) k many) in
-      let is : map value fs ≡ ns = entries-all 1 k (map value (f ∷ fs)) long ∙ same in (
+      let long : length (map value fs) ≡ 0 + k = omega (arith, length-map fs value, eqb→eq (length fs) k many) in
+      let is : map value fs ≡ ns = values-all 0 k (map value fs) long ∙ same in (
         ap₂ _∷_ (letter-alone letter f alone) (read .0 ∙ ap (map decimal) is),
         subst Short is (read .1),
       )
@@ -138,49 +112,45 @@ module _ (letter : ℕ) (ns : List ℕ) where
 -- ---- both kinds of lines
 
 -- a task's: read, written, and both ways
-task-read : (t : Task) (fs : List (List ℕ)) → asked fs ≡ Asks (AddTask t) → (fs ≡ taskFields t) × TaskShort t
+task-line-read : (t : Task) (fs : List (List ℕ)) → asked fs ≡ Asks (AddTask t)
+    → (fs ≡ lettered letterT (taskWords t)) × Short (taskWords t)
 unfolding asked
-task-read t fs = go (hasForm letterT 5 fs) (hasForm letterR 2 fs) refl
+task-line-read t fs = go (hasForm letterT taskSize fs) (hasForm letterR ruleSize fs) refl
   where
-    go : (a b : Bool) → hasForm letterT 5 fs ≡ a → asks a b (map value fs) ≡ Asks (AddTask t)
-        → (fs ≡ taskFields t) × TaskShort t
+    go : (a b : Bool) → hasForm letterT taskSize fs ≡ a → asks a b (valuesIn fs) ≡ Asks (AddTask t)
+        → (fs ≡ lettered letterT (taskWords t)) × Short (taskWords t)
     go true b form e =
-        let same : taskIn (map value fs) ≡ t = cc in
-        form-read letterT (taskNumbers t) 5 fs form (ap taskNumbers same)
+        let same : taskOf (valuesIn fs) ≡ t = cc in
+        form-read letterT (taskWords t) taskSize fs form (ap taskWords same)
     go false true form e = absurd (true≢false (cc))
     go false false form e = absurd (true≢false (cc))
 
-task-written : (t : Task) → TaskShort t → asked (taskFields t) ≡ Asks (AddTask t)
+task-line-written : (t : Task) → Short (taskWords t) → asked (lettered letterT (taskWords t)) ≡ Asks (AddTask t)
 unfolding asked hasForm
-task-written t s =
-    let w = numbers-written (taskNumbers t) s in
-    rw (w .0) (ap (λ (ms : List ℕ). Asks (AddTask (taskIn (value (letterT ∷ []) ∷ ms)))) (w .1))
+task-line-written t s = let w = numbers-written (taskWords t) s in rw (w .0) (ap (λ (ms : List ℕ). Asks (AddTask (taskOf ms))) (w .1))
 
 pub task-line-exactly : (bytes : List ℕ) (t : Task)
-    → (lineIn bytes ≡ Asks (AddTask t)) ↔ ((bytes ≡ join tab (taskFields t)) × TaskShort t)
-task-line-exactly bytes t =
-    line-exactly letterT (taskNumbers t) (Asks (AddTask t)) (omega arith) (task-read t) (task-written t) bytes
+    → (lineIn bytes ≡ Asks (AddTask t)) ↔ ((bytes ≡ join tab (lettered letterT (taskWords t))) × Short (taskWords t))
+task-line-exactly bytes t = line-exactly letterT (taskWords t) (Asks (AddTask t)) (omega arith) (task-line-read t) (task-line-written t) bytes
 
 -- and a rule's
-rule-read : (r : Rule) (fs : List (List ℕ)) → asked fs ≡ Asks (AddRule r) → (fs ≡ ruleFields r) × RuleShort r
+rule-line-read : (r : Rule) (fs : List (List ℕ)) → asked fs ≡ Asks (AddRule r)
+    → (fs ≡ lettered letterR (ruleWords r)) × Short (ruleWords r)
 unfolding asked
-rule-read r fs = go (hasForm letterT 5 fs) (hasForm letterR 2 fs) refl
+rule-line-read r fs = go (hasForm letterT taskSize fs) (hasForm letterR ruleSize fs) refl
   where
-    go : (a b : Bool) → hasForm letterR 2 fs ≡ b → asks a b (map value fs) ≡ Asks (AddRule r)
-        → (fs ≡ ruleFields r) × RuleShort r
+    go : (a b : Bool) → hasForm letterR ruleSize fs ≡ b → asks a b (valuesIn fs) ≡ Asks (AddRule r)
+        → (fs ≡ lettered letterR (ruleWords r)) × Short (ruleWords r)
     go true b form e = absurd (true≢false (cc))
     go false true form e =
-        let same : ruleIn (map value fs) ≡ r = cc in
-        form-read letterR (ruleNumbers r) 2 fs form (ap ruleNumbers same)
+        let same : ruleOf (valuesIn fs) ≡ r = cc in
+        form-read letterR (ruleWords r) ruleSize fs form (ap ruleWords same)
     go false false form e = absurd (true≢false (cc))
 
-rule-written : (r : Rule) → RuleShort r → asked (ruleFields r) ≡ Asks (AddRule r)
+rule-line-written : (r : Rule) → Short (ruleWords r) → asked (lettered letterR (ruleWords r)) ≡ Asks (AddRule r)
 unfolding asked hasForm
-rule-written r s =
-    let w = numbers-written (ruleNumbers r) s in
-    rw (w .0) (ap (λ (ms : List ℕ). Asks (AddRule (ruleIn (value (letterR ∷ []) ∷ ms)))) (w .1))
+rule-line-written r s = let w = numbers-written (ruleWords r) s in rw (w .0) (ap (λ (ms : List ℕ). Asks (AddRule (ruleOf ms))) (w .1))
 
 pub rule-line-exactly : (bytes : List ℕ) (r : Rule)
-    → (lineIn bytes ≡ Asks (AddRule r)) ↔ ((bytes ≡ join tab (ruleFields r)) × RuleShort r)
-rule-line-exactly bytes r =
-    line-exactly letterR (ruleNumbers r) (Asks (AddRule r)) (omega arith) (rule-read r) (rule-written r) bytes
+    → (lineIn bytes ≡ Asks (AddRule r)) ↔ ((bytes ≡ join tab (lettered letterR (ruleWords r))) × Short (ruleWords r))
+rule-line-exactly bytes r = line-exactly letterR (ruleWords r) (Asks (AddRule r)) (omega arith) (rule-line-read r) (rule-line-written r) bytes

@@ -1,31 +1,20 @@
--- A line's fields as the code holds their numbers, and laws of reading them one after the other. Assumes nothing.
+-- Laws of reading a line's fields one after the other, as numbers. Assumes nothing.
 use mathlib.Core.Path.{_≡_, refl, sym, ap, ap₂, _∙_}
-use mathlib.Core.Bool.{Bool, true, false, _&&_, and-assoc}
+use mathlib.Core.Bool.{true, false, _&&_, and-assoc}
 use mathlib.Core.List.{List, [], _∷_, _++_, map, append-nil, map-append}
 use Prim.Native.Nat.{ℕ, _+_, _≤_, _<_}
 use native.Mathlib.Omega.{arith}
-use lib.Dec.{leb}
 use lib.ListN.{length, set, replicate, length-append, length-map}
 use lib.Seq.{append-snoc}
 use borrow.Author.Tests.{le-leb, lt-leb}
 use Rattle.sets.specs.Choice.{and-false}
 use Rattle.sets.specs.Pad.{pad, set-pad}
-use Rattle.decimal.specs.declared.Number.the-variants.{Value, Malformed}
-use Rattle.decimal.specs.Decimal.{value, isNumber, numberIn}
-use Rattle.decimal.specs.Reading.{number-good, number-bad}
+use Rattle.lines.specs.declared.Number.the-variants.{Value, Malformed}
+use Rattle.lines.specs.Decimal.{value, isNumber, numberIn}
+use Rattle.lines.specs.Reading.{number-good, number-bad}
+use Rattle.taskset.specs.Words.{taskSize}
 use Rattle.text.specs.declared.Numbers.{Numbers}
-use Rattle.text.specs.Text.{areNumbers}
-
--- the numbers of some fields as an array holds them, and how many they are; none where a field is no number or there are more
-abbrev pub maxNumbers : ℕ
-maxNumbers = 5
-
-abbrev pub numbersBy : Bool → List (List ℕ) → Numbers
-numbersBy true fs = record { values = pad maxNumbers 0 (map value fs); count = length fs }
-numbersBy false fs = record { values = replicate maxNumbers 0; count = 0 }
-
-abbrev pub numbersIn : List (List ℕ) → Numbers
-numbersIn fs = numbersBy (areNumbers fs && leb (length fs) maxNumbers) fs
+use Rattle.text.specs.Text.{areNumbers, numbersIn}
 
 numbers-append : (fs gs : List (List ℕ)) → areNumbers (fs ++ gs) ≡ (areNumbers fs && areNumbers gs)
 unfolding areNumbers
@@ -33,27 +22,27 @@ numbers-append [] gs = refl
 numbers-append (f ∷ fs) gs = rw (numbers-append fs gs) (sym (and-assoc (isNumber f) (areNumbers fs) (areNumbers gs)))
 
 -- the first fields are read: they are numbers, not too many, and their values are held
-pub record Held (fields rest : List (List ℕ)) (values : List ℕ) (count : ℕ) : Type 0 where
+pub record FieldsRead (fields rest : List (List ℕ)) (values : List ℕ) (count : ℕ) : Type 0 where
   pub done : List (List ℕ)
   pub whole : done ++ rest ≡ fields
   pub good : areNumbers done ≡ true
-  pub held : values ≡ pad maxNumbers 0 (map value done)
+  pub held : values ≡ pad taskSize 0 (map value done)
   pub counted : count ≡ length done
-  pub few : count ≤ maxNumbers
+  pub few : count ≤ taskSize
 
-pub held-none : (fields : List (List ℕ)) → Held fields fields (replicate maxNumbers 0) 0
+pub none-read : (fields : List (List ℕ)) → FieldsRead fields fields (replicate taskSize 0) 0
 unfolding areNumbers
-held-none fields = record { done = []; whole = refl; good = refl; held = refl; counted = refl; few = omega arith }
+none-read fields = record { done = []; whole = refl; good = refl; held = refl; counted = refl; few = omega arith }
 
 abbrev noNumbers : Numbers
-noNumbers = record { values = replicate maxNumbers 0; count = 0 }
+noNumbers = record { values = replicate taskSize 0; count = 0 }
 
-module _ {fields rest : List (List ℕ)} {values : List ℕ} {count : ℕ} (h : Held fields rest values count) where
+module _ {fields rest : List (List ℕ)} {values : List ℕ} {count : ℕ} (h : FieldsRead fields rest values count) where
   -- too many fields
-  pub numbers-many : maxNumbers ≤ count → 0 < length rest → noNumbers ≡ numbersIn fields
+  pub numbers-many : taskSize ≤ count → 0 < length rest → noNumbers ≡ numbersIn fields
   numbers-many many some =
       let long = ap length (sym (h .whole)) ∙ length-append (h .done) rest in
-      rw (lt-leb (length fields) maxNumbers (omega (arith, long, h .counted)), and-false (areNumbers fields))
+      rw (lt-leb (length fields) taskSize (omega (arith, long, h .counted)), and-false (areNumbers fields))
 
   module _ {f : List ℕ} {more : List (List ℕ)} (next : rest ≡ f ∷ more) where
     -- the next field is no number
@@ -65,9 +54,9 @@ module _ {fields rest : List (List ℕ)} {values : List ℕ} {count : ℕ} (h : 
         rw bad
 
     -- the next field is a number
-    pub held-more : {v : ℕ} → numberIn f ≡ Value v → count < maxNumbers → Held fields more (set values count v) (count + 1)
+    pub one-read : {v : ℕ} → numberIn f ≡ Value v → count < taskSize → FieldsRead fields more (set values count v) (count + 1)
     unfolding areNumbers
-    held-more {v} e room =
+    one-read {v} e room =
         let (good, is) = number-good f v e in
         let long : length (map value (h .done)) ≡ count = length-map (h .done) value ∙ sym (h .counted) in
         record {
@@ -76,17 +65,17 @@ module _ {fields rest : List (List ℕ)} {values : List ℕ} {count : ℕ} (h : 
           good = numbers-append (h .done) (f ∷ []) ∙ rw (h .good, good);
           held =
               ap₂ (λ (xs : List ℕ) (k : ℕ). set xs k v) (h .held) (sym long)
-              ∙ set-pad maxNumbers 0 (map value (h .done)) v (omega (arith, long))
+              ∙ set-pad taskSize 0 (map value (h .done)) v (omega (arith, long))
               ∙ rw (map-append value (h .done) (f ∷ []), is);
           counted = omega (arith, h .counted, length-append (h .done) (f ∷ []));
           few = omega arith;
         }
 
 -- all fields are read
-pub numbers-all : {fields : List (List ℕ)} {values : List ℕ} {count : ℕ} → Held fields [] values count
+pub numbers-all : {fields : List (List ℕ)} {values : List ℕ} {count : ℕ} → FieldsRead fields [] values count
     → record { values = values; count = count } ≡ numbersIn fields
 numbers-all {fields} h =
     let all = sym (append-nil (h .done)) ∙ h .whole in
     let good : areNumbers fields ≡ true = ap areNumbers (sym all) ∙ h .good in
-    let long : length fields ≤ maxNumbers = omega (arith, h .few, h .counted, ap length all) in
-    rw (good, le-leb (length fields) maxNumbers long, h .held, h .counted, all)
+    let long : length fields ≤ taskSize = omega (arith, h .few, h .counted, ap length all) in
+    rw (good, le-leb (length fields) taskSize long, h .held, h .counted, all)

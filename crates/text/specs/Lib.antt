@@ -1,5 +1,3 @@
-pub mod Parts
-pub mod PartsLaws
 pub mod Text
 pub mod Fields
 pub mod LineLaws

@@ -1,21 +1,24 @@
--- Document 01, "Text and listing": what a line asks, and reading a text into a fresh task set. Assumes nothing.
+-- Document 01, "Text and listing": what a line asks, and what a text gives: a refusal, or the reference model's two lists.
+-- Assumes nothing.
 use mathlib.Core.Bool.{Bool, true, false, _&&_}
 use mathlib.Core.List.{List, [], _∷_, map}
 use Prim.Native.Nat.{ℕ, suc}
-use lib.Dec.{ltb, eqb}
-use lib.ListN.{length}
+use lib.Dec.{leb, ltb, eqb}
+use lib.ListN.{length, drop, replicate}
 use Rattle.sets.specs.Choice.{pick}
-use Rattle.decimal.specs.Decimal.{tab, feed, isNumber, value}
-use Rattle.taskset.specs.declared.TaskSet.{TaskSet}
+use Rattle.sets.specs.Pad.{pad}
+use Rattle.lines.specs.Decimal.{tab, feed, isNumber, value}
+use Rattle.lines.specs.Parts.{parts}
 use Rattle.taskset.specs.declared.Call.{Call}
 use Rattle.taskset.specs.declared.Call.the-variants.{AddTask, AddRule}
-use Rattle.taskset.specs.declared.Added.{Added}
-use Rattle.taskset.specs.Adding.{freshSet}
-use Rattle.taskset.specs.Calls.{taskIn, ruleIn, add}
+use Rattle.taskset.specs.Model.{Lists, noLists, refusalOf, extended}
+use Rattle.taskset.specs.Adding.{holding}
+use Rattle.taskset.specs.Words.{taskOf, ruleOf, taskSize, ruleSize}
 use Rattle.text.specs.declared.Line.{Line}
 use Rattle.text.specs.declared.Line.the-variants.{Asks, Unreadable}
+use Rattle.text.specs.declared.Numbers.{Numbers}
+use Rattle.text.specs.declared.Counts.{Counts}
 use Rattle.text.specs.declared.Reading.{Reading}
-use Rattle.text.specs.Parts.{parts}
 
 -- the most bytes of a text
 abbrev pub maxText : ℕ
@@ -45,11 +48,15 @@ unfoldable pub hasForm : ℕ → ℕ → List (List ℕ) → Bool
 hasForm letter count [] = false
 hasForm letter count (f ∷ fs) = isLetter letter f && eqb (length fs) count && areNumbers fs
 
+-- the values of the fields after the letter
+abbrev pub valuesIn : List (List ℕ) → List ℕ
+valuesIn fs = map value (drop 1 fs)
+
 -- `t`, C, T, D, J, B or `r`, u, l; nothing else is a line
 unfoldable pub asked : List (List ℕ) → Line
 asked fs =
-    pick (hasForm letterT 5 fs) (Asks (AddTask (taskIn (map value fs))))
-    (pick (hasForm letterR 2 fs) (Asks (AddRule (ruleIn (map value fs)))) Unreadable)
+    pick (hasForm letterT taskSize fs) (Asks (AddTask (taskOf (valuesIn fs))))
+    (pick (hasForm letterR ruleSize fs) (Asks (AddRule (ruleOf (valuesIn fs)))) Unreadable)
 
 -- fields are parted by one tab
 abbrev pub lineIn : List ℕ → Line
@@ -57,35 +64,56 @@ lineIn bytes = asked (parts tab bytes)
 
 -- ---- a text
 
-abbrev pub refusedAt : ℕ → ℕ → Reading
-refusedAt line refusal = record { refusal = refusal; line = line; set = freshSet }
+-- what a text gives: 0, line 0 and the lists; or a refusal's number, its line counted from 1, and no lists
+pub record Read : Type 0 where
+  pub refusal : ℕ
+  pub line : ℕ
+  pub lists : Lists
 
-abbrev pub taken : TaskSet → Reading
-taken s = record { refusal = 0; line = 0; set = s }
+abbrev pub refusedAt : ℕ → ℕ → Read
+refusedAt line refusal = record { refusal = refusal; line = line; lists = noLists }
 
--- a call's answer ends the reading at this line, or the rest is read into the set after it
-abbrev pub byAnswer : ℕ → Added → (TaskSet → Reading) → Reading
-byAnswer line a rest = pick (eqb (a .refusal) 0) (rest (a .set)) (refusedAt line (a .refusal))
+abbrev pub finished : Lists → Read
+finished l = record { refusal = 0; line = 0; lists = l }
 
--- a line that cannot be read is 7, and what it asks may be refused
-abbrev pub byLine : TaskSet → ℕ → Line → (TaskSet → Reading) → Reading
-byLine s line Unreadable rest = refusedAt line 7
-byLine s line (Asks c) rest = byAnswer line (add s c) rest
+-- a line that cannot be read is 7; its call is refused, or the rest is read into the lists that it extends
+abbrev pub byLine : Lists → ℕ → Line → (Lists → Read) → Read
+byLine l line Unreadable rest = refusedAt line 7
+byLine l line (Asks c) rest = pick (eqb (refusalOf l c) 0) (rest (extended l c)) (refusedAt line (refusalOf l c))
 
 -- what stands after the last line feed is no line: 7, unless nothing stands there
-abbrev pub atEnd : TaskSet → ℕ → List ℕ → Reading
-atEnd s line [] = taken s
-atEnd s line (b ∷ bs) = refusedAt line 7
+abbrev pub atEnd : Lists → ℕ → List ℕ → Read
+atEnd l line [] = finished l
+atEnd l line (b ∷ bs) = refusedAt line 7
 
 -- the parts between line feeds, each at its line number
-unfoldable pub readFrom : TaskSet → ℕ → List (List ℕ) → Reading
-readFrom s line [] = taken s
-readFrom s line (last ∷ []) = atEnd s line last
-readFrom s line (bytes ∷ more ∷ rest) = byLine s line (lineIn bytes) (λ t. readFrom t (suc line) (more ∷ rest))
+unfoldable pub readFrom : Lists → ℕ → List (List ℕ) → Read
+readFrom l line [] = finished l
+readFrom l line (last ∷ []) = atEnd l line last
+readFrom l line (bytes ∷ more ∷ rest) = byLine l line (lineIn bytes) (λ k. readFrom k (suc line) (more ∷ rest))
 
 -- 8 comes first, at line 0; lines are counted from 1
-unfoldable pub reading : List ℕ → Reading
-reading text = pick (ltb maxText (length text)) (refusedAt 0 8) (readFrom freshSet 1 (parts feed text))
+unfoldable pub reading : List ℕ → Read
+reading text = pick (ltb maxText (length text)) (refusedAt 0 8) (readFrom noLists 1 (parts feed text))
+
+-- ---- the same as the code hands it over
+
+-- the numbers of some fields as an array holds them, and how many; none where a field is no number or there are more
+abbrev pub numbersBy : Bool → List (List ℕ) → Numbers
+numbersBy true fs = record { values = pad taskSize 0 (map value fs); count = length fs }
+numbersBy false fs = record { values = replicate taskSize 0; count = 0 }
+
+abbrev pub numbersIn : List (List ℕ) → Numbers
+numbersIn fs = numbersBy (areNumbers fs && leb (length fs) taskSize) fs
+
+-- beside words: how many tasks and rules stand in them
+abbrev pub countsOf : Read → Counts
+countsOf r =
+    record { refusal = r .refusal; line = r .line; ntasks = length (r .lists .tasks); nrules = length (r .lists .rules) }
+
+-- with the set that holds the lists; a refused text gives an empty one
+abbrev pub handed : Read → Reading
+handed r = record { refusal = r .refusal; line = r .line; set = holding (r .lists) }
 
 -- ---- the calls that a text's lines ask
 

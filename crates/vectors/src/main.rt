@@ -11,7 +11,7 @@ fn answer_at(texts: &[u8], at: usize) -> usize
     requires { ⌜ at ≤ length (now texts) ⌝ }
     ensures { λ r. ⌜ (at < r) × (r ≤ length (now (texts .entry)) + 1) ⌝ }
 {
-    let text = text::stretch(texts, at, FORM_FEED);
+    let text = lines::stretch(texts, at, FORM_FEED);
     let mut out = [0u8; MAX_LISTING];
     let count = answer::report(text, &mut out);
     io::write_all(1, &out[..count]);

@@ -7,14 +7,14 @@ use Rattle.sets.specs.Choice.{pick}
 use Rattle.sets.specs.Bounded.{without}
 use Rattle.sets.specs.Marks.{first}
 
--- rule k tried: out for good where the others in play are infeasible
+-- rule k tried: out for good where the other active ones are infeasible
 unfoldable pub tried : ((ℕ → Bool) → Bool) → (ℕ → Bool) → ℕ → ℕ → Bool
-tried feasible inPlay k = let less = without inPlay k in pick (feasible less) inPlay less
+tried feasible active k = let less = without active k in pick (feasible less) active less
 
--- what is left of m rules after the first k were tried, and after all were
-unfoldable pub leftAfter : ((ℕ → Bool) → Bool) → ℕ → ℕ → ℕ → Bool
-leftAfter feasible m zero = first m
-leftAfter feasible m (suc k) = tried feasible (leftAfter feasible m k) k
+-- what stays of m rules after the first k were tried, and after all were
+unfoldable pub staying : ((ℕ → Bool) → Bool) → ℕ → ℕ → ℕ → Bool
+staying feasible m zero = first m
+staying feasible m (suc k) = tried feasible (staying feasible m k) k
 
 abbrev pub coreOf : ((ℕ → Bool) → Bool) → ℕ → ℕ → Bool
-coreOf feasible m = leftAfter feasible m m
+coreOf feasible m = staying feasible m m

@@ -1,10 +1,8 @@
 pub mod Core
-pub mod CoreLaws
 pub mod Verdict
-pub mod Demand3
-pub mod Replay
+pub mod Correct
+pub mod Cut
+pub mod CoreLaws
 pub mod Cutting
-pub mod Replaying
 pub mod Solving
 pub mod Explained
-pub mod Theorem

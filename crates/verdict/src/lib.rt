@@ -1,56 +1,63 @@
 // Solving a task set: a priority order with its responses, or an unschedulability core.
 
 ghost use mathlib.Core.Path.{_≡_};
-ghost use mathlib.Core.Bool.{true};
 ghost use Prim.Native.Nat.{_≤_, _<_};
 ghost use lib.ListN.{length};
+ghost use Rattle.sets.specs.Bounded.{without};
 ghost use Rattle.sets.specs.Marks.{first, marked};
-ghost use Rattle.taskset.specs.Rows.{maxRules};
-ghost use Rattle.taskset.specs.Adding.{freshSet, rows, isMade};
-ghost use Rattle.taskset.specs.Calls.{after, run, noLists, lists, heard};
-ghost use Rattle.assignment.specs.Audsley.{feasible};
-ghost use Rattle.assignment.specs.Preemptive.{problem};
-ghost use Rattle.assignment.specs.Levels.{Searched};
-ghost use Rattle.assignment.specs.Settling.{Known, Meets, Held};
+ghost use Rattle.taskset.specs.Refusals.{maxRules};
+ghost use Rattle.taskset.specs.Model.{Sound};
+ghost use Rattle.taskset.specs.Words.{tasksIn, rulesIn, listsIn};
+ghost use Rattle.assignment.specs.Audsley.{feasible, problem};
+ghost use Rattle.assignment.specs.Search.{Ended};
 ghost use Rattle.verdict.specs.Core.{tried, coreOf};
-ghost use Rattle.verdict.specs.Verdict.{solving};
-ghost use Rattle.verdict.specs.Demand3.{Demand3, Explains};
-ghost use Rattle.verdict.specs.Replay.{callIn, callsIn};
-use assignment::Assignment;
-use assignment::Standing;
+ghost use Rattle.verdict.specs.Verdict.{refused, deciding, solving};
+ghost use Rattle.verdict.specs.Correct.{Correct, Explains};
+ghost use Rattle.verdict.specs.Cut.{Cutting};
+use assignment::Hints;
+use assignment::Search;
+use assignment::fill_levels;
 use assignment::passing;
-use assignment::settle;
 use assignment::trial;
+use taskset::MAX_RULE_WORDS;
 use taskset::MAX_RULES;
+use taskset::MAX_TASK_WORDS;
 use taskset::MAX_TASKS;
-use taskset::Rule;
-use taskset::Task;
+use taskset::RULE_WORDS;
+use taskset::TASK_WORDS;
 use taskset::TaskIndex;
 use taskset::TaskSet;
+use taskset::rule_in;
+use taskset::write_words;
 
-// How a solving call ends: refused by a number, with an order, or with a core.
+// How solving ends: refused by a number, with an order, or with a core.
 pub enum Answer {
     Refused(u64),
     Order,
     Core,
 }
 
-// What solving hands over: the order's task indices with their responses, highest level first; the core's marks by rule; and
-// the task set, as it was.
-pub struct Solved {
+// What solving finds: the order's task indices with their responses, highest level first, and the core's marks by rule.
+pub struct Verdict {
     pub answer: Answer,
     pub order: [TaskIndex; MAX_TASKS],
     pub responses: [u64; MAX_TASKS],
     pub core: [bool; MAX_RULES],
+}
+
+// What solving a set hands over: the verdict, and the set as it was.
+pub struct Solved {
+    pub verdict: Verdict,
     pub set: TaskSet,
 }
 
-// A core being cut down: the rules still in it, where the search with them in play got stuck, and the last search that found
-// an order.
+// A core being cut down: the rules still in it, where the search with them got stuck, the tasks known to meet their deadline
+// with the others left there above them, and the last search that found an order.
 pub struct Cut {
-    pub marks: [bool; MAX_RULES],
-    pub stuck: Standing,
-    pub other: Standing,
+    pub active: [bool; MAX_RULES],
+    pub stuck: Search,
+    pub known: [bool; MAX_TASKS],
+    pub other: Search,
 }
 
 // Marks for the first m rules.
@@ -67,85 +74,142 @@ fn first(m: usize) -> [bool; MAX_RULES]
     marks
 }
 
-// Rule k tried: out for good where the others still have no valid order.
-fn try_rule(set: TaskSet, known: [bool; MAX_TASKS], cut: Cut, k: usize) -> Cut
-    requires { ⌜ isMade set ≡ true ⌝ }
-    requires { ⌜ k < maxRules ⌝ }
-    requires { ⌜ Held (lists set) (marked (cut .marks)) (cut .stuck) ⌝ }
-    requires { ⌜ Known (rows set) (marked (cut .stuck .left)) (marked known) ⌝ }
-    requires { ⌜ Meets (rows set) (cut .other) ⌝ }
-    ensures { λ r. ⌜ marked (r .marks) ≡ tried (feasible (problem (lists set))) (marked (cut .marks)) k ⌝ }
-    ensures held { λ r. ⌜ Held (lists set) (marked (r .marks)) (r .stuck) ⌝ }
-    ensures known { λ r. ⌜ Known (rows set) (marked (r .stuck .left)) (marked known) ⌝ }
-    ensures meets { λ r. ⌜ Meets (rows set) (r .other) ⌝ }
+// Rule k tried, with `less` the other rules still in: out for good where they still have no valid order. Where its two tasks
+// are not both left it changes nothing, and no search is made.
+fn try_rule(rows: &[u64], rules: &[u64], less: [bool; MAX_RULES], cut: Cut, k: usize) -> Cut
+    requires { ⌜ Sound (listsIn (now rows) (now rules)) ⌝ }
+    requires { ⌜ k < length (rulesIn (now rules)) ⌝ }
+    requires { ⌜ Cutting (problem (listsIn (now rows) (now rules))) cut ⌝ }
+    requires { ⌜ marked less ≡ without (marked (cut .active)) k ⌝ }
+    ensures { λ r. ⌜ marked (r .active) ≡ tried (feasible (problem (listsIn (now (rows .entry)) (now (rules .entry))))) (marked (cut .active)) k ⌝ }
+    ensures cutting { λ r. ⌜ Cutting (problem (listsIn (now (rows .entry)) (now (rules .entry)))) r ⌝ }
 {
-    let marks = cut.marks;
-    let mut less = marks;
-    less[k] = false;
-    let tried = settle(set, less, known, cut.other, cut.stuck);
     let mut next = cut;
-    if tried.free == 0 {
-        next.other = tried;
+    next.active[k] = false;
+    let known = cut.known;
+    let other = cut.other;
+    let left = cut.stuck.left;
+    let rule = rule_in(rules, k);
+    let higher = rule.higher.0;
+    let lower = rule.lower.0;
+    if !(left[higher] & left[lower]) {
         return next;
     }
-    next.marks = less;
+    let hints = Hints {
+        given: true,
+        known,
+        other,
+    };
+    let tried = fill_levels(rows, rules, less, hints, cut.stuck);
+    if tried.free == 0 {
+        let mut kept = cut;
+        kept.other = tried;
+        return kept;
+    }
     next.stuck = tried;
     next
 }
 
-// The rules that stay when each is tried, from where the search with every rule in play got stuck; `other` is one that went on
-// without rules.
-fn cut_down(
-    set: TaskSet,
-    known: [bool; MAX_TASKS],
-    other: Standing,
-    stuck: Standing,
-) -> [bool; MAX_RULES]
-    requires { ⌜ isMade set ≡ true ⌝ }
-    requires { ⌜ Held (lists set) (first (set .nrules)) stuck ⌝ }
-    requires { ⌜ Known (rows set) (marked (stuck .left)) (marked known) ⌝ }
-    requires { ⌜ Meets (rows set) other ⌝ }
-    ensures { λ r. ⌜ marked r ≡ coreOf (feasible (problem (lists set))) (set .nrules) ⌝ }
+// The rules that stay when each is tried in turn, on what is left: it is out while it is tried, and back in where it is needed.
+fn cut_down(rows: &[u64], rules: &[u64], start: Cut) -> [bool; MAX_RULES]
+    requires { ⌜ Sound (listsIn (now rows) (now rules)) ⌝ }
+    requires { ⌜ Cutting (problem (listsIn (now rows) (now rules))) start ⌝ }
+    requires { ⌜ marked (start .active) ≡ first (length (rulesIn (now rules))) ⌝ }
+    ensures { λ r. ⌜ marked r ≡ coreOf (feasible (problem (listsIn (now (rows .entry)) (now (rules .entry)))))
+        (length (rulesIn (now (rules .entry)))) ⌝ }
 {
-    let m = set.nrules;
-    let marks = first(m);
-    let mut cut = Cut {
-        marks,
-        stuck,
-        other,
-    };
+    let m = rules.len() / RULE_WORDS;
+    let mut active = start.active;
+    let mut cut = start;
     let mut k = 0;
     while k < m {
-        cut = try_rule(set, known, cut, k);
+        active[k] = false;
+        cut = try_rule(rows, rules, active, cut, k);
+        active[k] = cut.active[k];
         k += 1;
     }
-    cut.marks
+    cut.active
 }
 
-// The core of a set, from where the search with every rule in play got stuck: empty where it gets stuck without rules too.
-fn core(set: TaskSet, found: Assignment) -> [bool; MAX_RULES]
-    requires { ⌜ isMade set ≡ true ⌝ }
-    requires { ⌜ Searched (lists set) (first (set .nrules)) found ⌝ }
-    ensures { λ r. ⌜ marked r ≡ coreOf (feasible (problem (lists set))) (set .nrules) ⌝ }
+// The core, from where the search with every rule got stuck: empty where the search gets stuck without rules too.
+fn core(rows: &[u64], rules: &[u64], active: [bool; MAX_RULES], stuck: Search) -> [bool; MAX_RULES]
+    requires { ⌜ Sound (listsIn (now rows) (now rules)) ⌝ }
+    requires { ⌜ marked active ≡ first (length (rulesIn (now rules))) ⌝ }
+    requires { ⌜ Ended (problem (listsIn (now rows) (now rules))) (marked active) stuck ⌝ }
+    requires { ⌜ 1 ≤ stuck .free ⌝ }
+    ensures { λ r. ⌜ marked r ≡ coreOf (feasible (problem (listsIn (now (rows .entry)) (now (rules .entry)))))
+        (length (rulesIn (now (rules .entry)))) ⌝ }
 {
-    let no_rules = [false; MAX_RULES];
-    if set.nrules == 0 {
-        return no_rules;
+    let none = [false; MAX_RULES];
+    if rules.len() < RULE_WORDS {
+        return none;
     }
-    let levels = found.levels;
-    let order = levels.order;
-    let left = found.left;
-    let stuck = Standing {
-        order,
-        free: found.free,
-        left,
+    let left = stuck.left;
+    let known = passing(rows, left);
+    let hints = Hints {
+        given: true,
+        known,
+        other: stuck,
     };
-    let known = passing(set, left);
-    let bare = settle(set, no_rules, known, stuck, stuck);
-    if bare.free == 0 {
-        return cut_down(set, known, bare, stuck);
+    let other = fill_levels(rows, rules, none, hints, stuck);
+    if other.free == 0 {
+        return cut_down(
+            rows,
+            rules,
+            Cut {
+                active,
+                stuck,
+                known,
+                other,
+            },
+        );
     }
-    no_rules
+    none
+}
+
+// Refused by a number: the lists are all 0 and no.
+fn refused(number: u64) -> Verdict
+    ensures { λ r. ⌜ r ≡ refused number ⌝ }
+{
+    let order = [TaskIndex(0); MAX_TASKS];
+    let responses = [0; MAX_TASKS];
+    let core = [false; MAX_RULES];
+    Verdict {
+        answer: Answer::Refused(number),
+        order,
+        responses,
+        core,
+    }
+}
+
+// The verdict on the lists in two slices of words: refusal 13, then an order or a core.
+pub fn decide(rows: &[u64], rules: &[u64]) -> Verdict
+    requires { ⌜ Sound (listsIn (now rows) (now rules)) ⌝ }
+    ensures { λ r. ⌜ r ≡ deciding (listsIn (now (rows .entry)) (now (rules .entry))) ⌝ }
+    ensures says { λ r. ⌜ (1 ≤ length (tasksIn (now (rows .entry))) → Correct (listsIn (now (rows .entry)) (now (rules .entry))) r) ⌝ }
+{
+    if rows.len() < TASK_WORDS {
+        return refused(13);
+    }
+    let active = first(rules.len() / RULE_WORDS);
+    let found = trial(rows, rules, active);
+    let order = found.order;
+    let responses = found.responses;
+    if found.free == 0 {
+        return Verdict {
+            answer: Answer::Order,
+            order,
+            responses,
+            core: [false; MAX_RULES],
+        };
+    }
+    let core = core(rows, rules, active, found);
+    Verdict {
+        answer: Answer::Core,
+        order: [TaskIndex(0); MAX_TASKS],
+        responses: [0; MAX_TASKS],
+        core,
+    }
 }
 
 // Refusals 14 and 13, then the verdict.
@@ -153,82 +217,17 @@ pub fn solve(set: TaskSet) -> Solved
     ensures { λ r. ⌜ r ≡ solving set ⌝ }
     ensures says { λ r. ⌜ Explains set r ⌝ }
 {
-    let zeros = [TaskIndex(0); MAX_TASKS];
-    let none = [false; MAX_RULES];
     if !set.is_made() {
         return Solved {
-            answer: Answer::Refused(14),
-            order: zeros,
-            responses: [0; MAX_TASKS],
-            core: none,
+            verdict: refused(14),
             set,
         };
     }
-    if set.ntasks == 0 {
-        return Solved {
-            answer: Answer::Refused(13),
-            order: zeros,
-            responses: [0; MAX_TASKS],
-            core: none,
-            set,
-        };
-    }
-    let found = trial(set, first(set.nrules));
-    if found.free == 0 {
-        let levels = found.levels;
-        let order = levels.order;
-        let responses = levels.responses;
-        return Solved {
-            answer: Answer::Order,
-            order,
-            responses,
-            core: none,
-            set,
-        };
-    }
-    let core = core(set, found);
-    Solved {
-        answer: Answer::Core,
-        order: zeros,
-        responses: [0; MAX_TASKS],
-        core,
-        set,
-    }
-}
-
-// The set after the adding call that these six words ask.
-fn make(set: TaskSet, call: &[u64]) -> TaskSet
-    requires { ⌜ 6 ≤ length (now call) ⌝ }
-    ensures { λ r. ⌜ r ≡ after set (callIn (now (call .entry))) ⌝ }
-{
-    if call[0] == 0 {
-        let task = Task {
-            execution: call[1],
-            period: call[2],
-            deadline: call[3],
-            jitter: call[4],
-            blocking: call[5],
-        };
-        return set.add_task(task).set;
-    }
-    let rule = Rule {
-        higher: TaskIndex(call[1] as usize),
-        lower: TaskIndex(call[2] as usize),
-    };
-    set.add_rule(rule).set
-}
-
-// Demand 3's program: each call on the set that the one before handed back, from a fresh one, and solving at the end.
-pub fn replay(calls: &[u64]) -> Solved
-    ensures { λ r. ⌜ r ≡ solving (run freshSet (callsIn (now (calls .entry)))) ⌝ }
-    ensures demand3 { λ r. ⌜ (1 ≤ length (heard noLists (callsIn (now (calls .entry))) .tasks) → Demand3 (heard noLists (callsIn (now (calls .entry)))) r) ⌝ }
-{
-    let n = calls.len() / 6;
-    let mut set = TaskSet::fresh();
-    let mut i = 0;
-    while i < n {
-        set = make(set, &calls[6 * i..6 * i + 6]);
-        i += 1;
-    }
-    solve(set)
+    let mut rows = [0u64; MAX_TASK_WORDS];
+    let mut rules = [0u64; MAX_RULE_WORDS];
+    write_words(set, &mut rows, &mut rules);
+    let n = TASK_WORDS * set.ntasks;
+    let m = RULE_WORDS * set.nrules;
+    let verdict = decide(&rows[..n], &rules[..m]);
+    Solved { verdict, set }
 }

@@ -4,8 +4,11 @@ use native.Mathlib.Omega.{arith}
 use borrow.Author.Needs.{needs}
 use lib.ListN.{length}
 use Rattle.sets.specs.Marks.{marked}
-use Rattle.response.specs.Words.{tasksIn, tasks-length}
-use Rattle.assignment.specs.Settling.{known-any}
+use Rattle.taskset.specs.Refusals.{maxTasks}
+use Rattle.taskset.specs.Words.{tasksIn}
+use Rattle.taskset.specs.WordsLaws.{tasks-length}
+use Rattle.assignment.specs.Audsley.{bare}
+use Rattle.assignment.specs.Hints.{known-any}
 use Rattle.assignment.proofs.choose_any.Statement.{statement}
 use Rattle.assignment.proofs.choose_any.Tie as tie
 
@@ -15,6 +18,10 @@ Inv-loop rows other left ready known j₀ j = j ≤ length (tasksIn rows)
 abbrev μ-loop : tie.MeasureT-loop
 μ-loop rows other left ready known j₀ j = j
 
+-- the task of a turn is one that the marks have
+inside : (c : tie.In-loop Inv-loop μ-loop) → c .before .loop .j - 1 < maxTasks
+inside c = let at = c .before in omega (arith, at .before .before .pre .0 .few, at .loop .inv)
+
 loop-holds : tie.Need-loop-holds Inv-loop μ-loop
 loop-holds c = omega (arith, tasks-length (c .before .args .rows .now))
 
@@ -22,17 +29,17 @@ sub-j : tie.Need-sub-j Inv-loop μ-loop
 sub-j c = search needs
 
 array-read-if1 : tie.Need-array-read-if1 Inv-loop μ-loop
-array-read-if1 c = omega (arith, c .before .before .before .pre .0 .few, c .before .loop .inv)
+array-read-if1 c = inside c
 
 array-read-if1-2 : tie.Need-array-read-if1-2 Inv-loop μ-loop
-array-read-if1-2 c = omega (arith, c .before .before .before .pre .0 .few, c .before .loop .inv)
+array-read-if1-2 c = inside c
 
 returns : tie.Need-returns Inv-loop μ-loop
 returns c =
-    let s = c .before .before .before .before in
-    let at = c .before .before .loop in
-    let here : at .j - 1 < length (tasksIn (s .args .rows .now)) = omega (arith, at .inv) in
-    (here, known-any _ (marked (s .args .t2)) (marked (s .args .left)) (marked (s .args .t3)) (s .pre .1 .0) (at .j - 1) here (c .if1 .taken))
+    let at = c .before .before in
+    let s = at .before .before in
+    known-any (bare (tasksIn (s .args .rows .now))) (marked (s .args .t2)) (marked (s .args .left)) (marked (s .args .t3)) (s .pre .1 .0)
+    (at .loop .j - 1) (omega (arith, at .loop .inv)) (c .if1 .taken)
 
 loop-less : tie.Need-loop-less Inv-loop μ-loop
 loop-less c = omega arith

@@ -5,7 +5,7 @@ use Prim.Native.Nat.{ℕ, _-_, _≤_}
 use native.Mathlib.Omega.{arith}
 use lib.ListN.{length, length-set}
 use Rattle.sets.specs.Marks.{first, marked, marked-first-none, marked-first}
-use Rattle.taskset.specs.Rows.{maxTasks}
+use Rattle.taskset.specs.Refusals.{maxTasks}
 use Rattle.assignment.proofs.first.Statement.{statement}
 use Rattle.assignment.proofs.first.Tie as tie
 

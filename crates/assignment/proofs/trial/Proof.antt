@@ -1,30 +1,35 @@
 -- `assignment::trial` meets its contract. Assumes nothing.
-use native.Mathlib.Omega.{arith}
-use borrow.Author.Needs.{needs}
-use Rattle.sets.specs.Marks.{marked}
-use Rattle.taskset.specs.Calls.{lists}
-use Rattle.taskset.specs.Exact.{Sized, sized-by, passes-counts, passes-sound}
-use Rattle.assignment.specs.Filling.{resumes-assign, assign-decides}
+use mathlib.Core.Path.{_≡_, refl, sym}
+use Prim.Native.Nat.{_/_, _≤_}
+use lib.ListN.{length}
+use Rattle.taskset.specs.Refusals.{maxTasks}
+use Rattle.taskset.specs.Words.{taskSize, tasksIn}
+use Rattle.taskset.specs.WordsLaws.{tasks-count}
+use Rattle.assignment.specs.Going.{searched-fresh, assigns-fresh, no-hints}
 use Rattle.assignment.proofs.trial.Statement.{statement}
 use Rattle.assignment.proofs.trial.Tie as tie
 
-sized : (c : tie.Start) → Sized (c .args .set)
-sized c = sized-by _ _ (c .args .set) (c .good .0 .1 .1 .0 .1 .0 .1) (c .good .0 .1 .1 .1 .1 .0 .1 .0 .1)
+-- how many tasks there are
+count : (s : tie.Start) → let words = s .args .rows .now in
+    (length words / taskSize ≡ length (tasksIn words)) × (length words / taskSize ≤ maxTasks)
+count s = let h = tasks-count _ (s .pre .tasks) in (sym (h .0), h .1)
 
-start-requires : tie.Need-start-requires
-start-requires c κs = search needs
+first-requires : tie.Need-first-requires
+first-requires c κs = count (c .before .before) .1
 
-resume-requires : tie.Need-resume-requires
-resume-requires c κs =
-    let s = c .before in
-    (s .pre, omega (arith, c .start .ensures .free, passes-counts (s .args .set) (sized s) (s .pre) .0))
+fill-levels-requires : tie.Need-fill-levels-requires
+fill-levels-requires c κs =
+    let s = c .before .before .before in
+    (s .pre, (searched-fresh _ _ (s .pre .tasks .few) _ (count s .0) _ (c .first .ensures), no-hints _ _ _ refl))
 
 returns : tie.Need-returns
 returns c =
-    let s = c .before .before in
-    let l = lists (s .args .set) in
-    let stands = resumes-assign l (marked (s .args .marks)) _ _ (c .before .start .ensures) (c .resume .ensures) in
-    (stands, assign-decides l (passes-sound (s .args .set) (sized s) (s .pre)) (marked (s .args .marks)) _ stands)
+    let marks = c .before in
+    let s = marks .before .before .before in
+    let r = c .fill-levels .ensures in (
+      assigns-fresh _ _ (s .pre .tasks .few) _ (count s .0) _ (marks .first .ensures) (r .1 .1 .1 refl),
+      (r .0, r .1 .0),
+    )
 
 pub trial-spec : {M : Type 1} → statement M
-trial-spec = tie.close (tie.spec start-requires resume-requires returns)
+trial-spec = tie.close (tie.spec first-requires fill-levels-requires returns)

@@ -2,7 +2,7 @@
 use mathlib.Core.Path.{subst}
 use borrow.Author.Needs.{needs}
 use Rattle.io.specs.Counts.{Counts}
-use Rattle.orders.specs.Input.{Holds}
+use Rattle.orders.specs.Input.{InFront}
 use Rattle.orders.proofs.main.Statement.{statement}
 use Rattle.orders.proofs.main.Tie as tie
 
@@ -10,7 +10,7 @@ use Rattle.orders.proofs.main.Tie as tie
 read : (c : tie.After-known-told) → Counts (c .before .n .given .0 .0) (c .before .before .before .before .read-text .last .1 .0)
 read c =
     let r = c .before .before .before .before .read-text in
-    subst (Holds (r .last .1 .0)) (c .before .n .given .1) (r .ensures)
+    subst (InFront (r .last .1 .0)) (c .before .n .given .1) (r .ensures)
 
 slice-aggregate-read-text : tie.Need-slice-aggregate-read-text
 slice-aggregate-read-text c = search needs

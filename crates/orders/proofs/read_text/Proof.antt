@@ -5,7 +5,7 @@ use native.Mathlib.Omega.{arith}
 use borrow.Author.Needs.{needs}
 use lib.ListN.{length}
 use Rattle.io.proofs.Counting.{counts}
-use Rattle.orders.specs.Input.{Holds}
+use Rattle.orders.specs.Input.{InFront}
 use Rattle.orders.proofs.read_text.Statement.{statement}
 use Rattle.orders.proofs.read_text.Tie as tie
 
@@ -20,7 +20,7 @@ more-in : (c : tie.After-known-told Inv-loop μ-loop)
     → c .before .more .given .0 .0 ≤ length (c .before .before .before .before .before .read-some .last .1 .0)
 more-in c =
     let r = c .before .before .before .before .before .read-some in
-    subst (Holds (r .last .1 .0)) (c .before .more .given .1) (r .ensures) .0
+    subst (InFront (r .last .1 .0)) (c .before .more .given .1) (r .ensures) .0
 
 loop-holds : tie.Need-loop-holds Inv-loop μ-loop
 loop-holds c = search needs

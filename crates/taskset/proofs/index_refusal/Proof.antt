@@ -1,6 +1,6 @@
 -- `taskset::index_refusal` meets its contract. Assumes nothing.
 use borrow.Author.Tests.{eq-eqb, ne-eqb}
-use Rattle.taskset.specs.Rows.{indexRefusals}
+use Rattle.taskset.specs.Refusals.{indexRefusals}
 use Rattle.taskset.proofs.index_refusal.Statement.{statement}
 use Rattle.taskset.proofs.index_refusal.Tie as tie
 

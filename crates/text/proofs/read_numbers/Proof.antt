@@ -5,19 +5,20 @@ use Prim.Native.Nat.{ℕ, _+_, _-_, _^_, _≤_, _<_}
 use native.Mathlib.Omega.{arith}
 use lib.ListN.{length, drop, set}
 use borrow.Author.Needs.{needs}
-use Rattle.decimal.specs.Decimal.{tab}
-use Rattle.text.specs.Parts.{parts}
-use Rattle.text.specs.PartsLaws.{after, parts-some, part-within, part-first, part-last, part-step}
-use Rattle.text.specs.Fields.{maxNumbers, Held, held-none, held-more, numbers-bad, numbers-many, numbers-all}
+use Rattle.lines.specs.Decimal.{tab}
+use Rattle.lines.specs.Parts.{parts}
+use Rattle.lines.specs.PartsLaws.{furtherParts, parts-some, part-within, part-first, part-last, part-step}
+use Rattle.taskset.specs.Words.{taskSize}
+use Rattle.text.specs.Fields.{FieldsRead, none-read, one-read, numbers-bad, numbers-many, numbers-all}
 use Rattle.text.proofs.read_numbers.Statement.{statement}
 use Rattle.text.proofs.read_numbers.Tie as tie
 
 abbrev Inv-loop : tie.InvT-loop
 Inv-loop line from none values₀ count₀ at₀ values count at =
-    (at ≤ length line) × Held (parts tab (drop from line)) (parts tab (drop at line)) values count
+    (at ≤ length line) × FieldsRead (parts tab (drop from line)) (parts tab (drop at line)) values count
 
 abbrev μ-loop : tie.MeasureT-loop
-μ-loop line from none values₀ count₀ at₀ values count at = maxNumbers - count
+μ-loop line from none values₀ count₀ at₀ values count at = taskSize - count
 
 -- the next field is found: the loop's test before it, the line, and the position past the field
 module _ (c : tie.After-stretch Inv-loop μ-loop) where
@@ -43,7 +44,7 @@ module _ (c : tie.After-stretch Inv-loop μ-loop) where
   past-fits : (past ≤ length line) × (length line < 2 ^ 64)
   past-fits = (part-within tab line (here .loop .at) field (here .loop .inv .0) (c .stretch .ensures), search needs)
 
-  first : rest ≡ field ∷ after tab (drop past line)
+  first : rest ≡ field ∷ furtherParts tab (drop past line)
   first = part-first tab line (here .loop .at) field (c .stretch .ensures)
 
   last : length line ≤ past → rest ≡ field ∷ []
@@ -54,23 +55,25 @@ module _ (c : tie.After-stretch Inv-loop μ-loop) where
 
 -- it is a number, and held
 module _ (c : tie.After-known-told Inv-loop μ-loop) where
+  abbrev matched : tie.At-match-keys1 Inv-loop μ-loop
+  matched = c .before .before
+
   abbrev found : tie.After-stretch Inv-loop μ-loop
-  found = c .before .before .before .before
+  found = matched .before .before
 
   held : {more : List (List ℕ)} → rest found ≡ field found ∷ more → let l = here found .loop in
-      Held (fields found) more (set (l .values) (l .count) (c .before .value .given .0 .0)) (l .count + 1)
+      FieldsRead (fields found) more (set (l .values) (l .count) (c .before .value .given .0 .0)) (l .count + 1)
   held next =
-      let r = c .before .before .before in
-      held-more (here found .loop .inv .1) next (sym (r .read .ensures) ∙ c .before .value .given .1) (omega arith)
+      one-read (here found .loop .inv .1) next (sym (matched .before .read-number .ensures) ∙ c .before .value .given .1) (omega arith)
 
 loop-holds : tie.Need-loop-holds Inv-loop μ-loop
-loop-holds c = (c .before .pre, held-none _)
+loop-holds c = (c .before .pre, none-read _)
 
 stretch-requires : tie.Need-stretch-requires Inv-loop μ-loop
 stretch-requires c κs = search needs
 
-read-requires : tie.Need-read-requires Inv-loop μ-loop
-read-requires c κs = search needs
+read-number-requires : tie.Need-read-number-requires Inv-loop μ-loop
+read-number-requires c κs = search needs
 
 enum-known-value : tie.Need-enum-known-value Inv-loop μ-loop
 enum-known-value c = search needs
@@ -82,7 +85,7 @@ returns : tie.Need-returns Inv-loop μ-loop
 returns c =
     let r = c .before .before in
     let f = r .before in
-    numbers-bad (here f .loop .inv .1) (first f) (sym (r .read .ensures) ∙ c .enum-told .given .1)
+    numbers-bad (here f .loop .inv .1) (first f) (sym (r .read-number .ensures) ∙ c .enum-told .given .1)
 
 mul-values : tie.Need-mul-values Inv-loop μ-loop
 mul-values c = search needs
@@ -119,7 +122,7 @@ read-numbers-spec =
     μ-loop
     loop-holds
     stretch-requires
-    read-requires
+    read-number-requires
     enum-known-value
     enum-told
     returns

@@ -2,7 +2,7 @@
 use borrow.Author.Needs.{needs}
 use native.Mathlib.Omega.{arith}
 use denote.Ref.{now}
-use Rattle.text.specs.PartsLaws.{part-within}
+use Rattle.lines.specs.PartsLaws.{part-within}
 use Rattle.vectors.proofs.answer_at.Statement.{statement}
 use Rattle.vectors.proofs.answer_at.Tie as tie
 

@@ -1,89 +1,125 @@
 -- `verdict::solve` meets its contract. Assumes nothing.
-use mathlib.Core.Path.{_≡_, sym, ap, subst, _∙_}
-use mathlib.Core.Bool.{Bool, true}
-use Prim.Native.Nat.{ℕ}
+use mathlib.Core.Path.{_≡_, refl, sym, ap, subst, _∙_}
+use mathlib.Core.Bool.{true}
+use Prim.Native.Nat.{_*_, _≤_}
 use native.Mathlib.Omega.{arith}
 use borrow.Author.Needs.{needs}
 use borrow.Author.Tests.{not-true, not-false}
 use lib.ListN.{length}
-use Rattle.sets.specs.Marks.{first, marked}
-use Rattle.taskset.specs.Rows.{maxRules}
-use Rattle.taskset.specs.Adding.{rules, isMade}
-use Rattle.taskset.specs.Calls.{lists}
-use Rattle.taskset.specs.Exact.{Sized, sized-by, passes-few-rules, passes-counts, passes-sound}
-use Rattle.assignment.specs.Audsley.{feasible}
-use Rattle.assignment.specs.Preemptive.{problem}
-use Rattle.assignment.specs.Levels.{Searched}
-use Rattle.assignment.specs.Filling.{assign-searched}
-use Rattle.verdict.specs.Core.{coreOf}
-use Rattle.verdict.specs.Solving.{solving-14, solving-13, solving-given, gives-order, gives-core}
-use Rattle.verdict.specs.Explained.{solving-explained}
+use lib.Seq.{length-take-le}
+use Rattle.taskset.specs.Refusals.{maxTasks, maxRules}
+use Rattle.taskset.specs.Model.{Sound}
+use Rattle.taskset.specs.Adding.{isMade}
+use Rattle.taskset.specs.Passing.{Sized, passed, passed-few}
+use Rattle.taskset.specs.Words.{taskSize, ruleSize}
+use Rattle.taskset.proofs.Sizes.{sized as sizes}
+use Rattle.verdict.specs.declared.Solved.{Solved}
+use Rattle.verdict.specs.declared.Verdict.{Verdict}
+use Rattle.verdict.specs.Verdict.{deciding, solving}
+use Rattle.verdict.specs.Correct.{Explains}
+use Rattle.verdict.specs.Solving.{solving-14, solving-made}
+use Rattle.verdict.specs.Explained.{solving-explains}
 use Rattle.verdict.proofs.solve.Statement.{statement}
 use Rattle.verdict.proofs.solve.Tie as tie
 
-sized : (c : tie.Start) → Sized (c .args .set)
-sized c = sized-by _ _ (c .args .set) (c .good .0 .1 .1 .0 .1 .0 .1) (c .good .0 .1 .1 .1 .1 .0 .1 .0 .1)
+sized : (s : tie.Start) → Sized (s .args .set)
+sized s = sizes (s .args .set) (s .good .0)
 
-made : (c : tie.Else1) → isMade (c .before .before .args .set) ≡ true
+explained : (s : tie.Start) (r : Solved) → r ≡ solving (s .args .set) → (r ≡ solving (s .args .set)) × Explains (s .args .set) r
+explained s r e = (e, solving-explains (s .args .set) (sized s) r e)
+
+-- where the check passed
+abbrev start : tie.Else1 → tie.Start
+start c = c .before .before
+
+made : (c : tie.Else1) → isMade (start c .args .set) ≡ true
 made c = sym (c .before .is-made .ensures .0) ∙ not-false _ (c .if1 .left)
 
-every : (c : tie.After-first) → marked (c .first .result) ≡ first (length (rules (c .before .before .before .before .before .args .set)))
-every c =
-    let s = c .before .before .before .before .before in
-    c .first .ensures ∙ ap first (sym (passes-counts (s .args .set) (sized s) (made (c .before .before .before)) .1))
+few : (c : tie.Else1) → let set = start c .args .set in (set .ntasks ≤ maxTasks) × (set .nrules ≤ maxRules)
+few c = passed-few (start c .args .set) (passed (start c .args .set) (sized (start c)) (made c))
+
+abbrev checked : tie.After-write-words → tie.Else1
+checked c = c .before .before .before
+
+abbrev written : tie.After-struct-known2 → tie.After-write-words
+written c = let rows = c .before .before in rows .before .before
 
 is-made-requires : tie.Need-is-made-requires
 is-made-requires c κs = search needs
 
+refused-requires : tie.Need-refused-requires
+refused-requires c κs = search needs
+
 returns : tie.Need-returns
 returns c =
-    let s = c .before .before in
-    solving-explained (s .args .set) (sized s) _ (solving-14 (s .args .set) (sym (c .before .is-made .ensures .0) ∙ not-true _ (c .if1 .taken)))
+    let check = c .before .before in
+    let s = check .before in
+    explained s _
+    (ap (λ (v : Verdict). record { verdict = v; set = s .args .set }) (c .refused .ensures)
+    ∙ solving-14 (s .args .set) (sym (check .is-made .ensures .0) ∙ not-true _ (c .before .if1 .taken)))
+
+slice-aggregate-write-words : tie.Need-slice-aggregate-write-words
+slice-aggregate-write-words c = refl
+
+slice-aggregate-write-words-2 : tie.Need-slice-aggregate-write-words-2
+slice-aggregate-write-words-2 c = refl
+
+write-words-requires : tie.Need-write-words-requires
+write-words-requires c κs = (few (c .before .before), (omega arith, omega arith))
+
+-- the words of the lists lie inside what was written
+inside : (w : tie.After-write-words) → let set = start (checked w) .args .set in
+    (taskSize * set .ntasks ≤ length (w .write-words .last .1 .0)) × (ruleSize * set .nrules ≤ length (w .write-words .last .1 .1 .0))
+inside w = let f = few (checked w) in let k = w .write-words .kept in (omega (arith, f, k .1 .0), omega (arith, f, k .1 .1 .0))
+
+mul-n : tie.Need-mul-n
+mul-n c = let w = c .before .before .before in omega (arith, few (checked w))
+
+mul-m : tie.Need-mul-m
+mul-m c = omega (arith, few (checked (written c)))
+
+array-share-prefix-rows : tie.Need-array-share-prefix-rows
+array-share-prefix-rows c = inside (written c) .0
+
+slice-aggregate-decide : tie.Need-slice-aggregate-decide
+slice-aggregate-decide c = sym (length-take-le _ _ (inside (written (c .before)) .0))
+
+array-share-prefix-rules : tie.Need-array-share-prefix-rules
+array-share-prefix-rules c = inside (written (c .before)) .1
+
+slice-aggregate-decide-2 : tie.Need-slice-aggregate-decide-2
+slice-aggregate-decide-2 c = sym (length-take-le _ _ (inside (written (c .before .before)) .1))
+
+decide-requires : tie.Need-decide-requires
+decide-requires c κs =
+    let w = written (c .before .before) in
+    let s = start (checked w) in
+    subst Sound (sym (w .write-words .ensures)) (passed (s .args .set) (sized s) (made (checked w)) .sound)
 
 returns-2 : tie.Need-returns-2
 returns-2 c =
-    let s = c .before .before .before .before in
-    solving-explained (s .args .set) (sized s) _ (solving-13 (s .args .set) (made (c .before .before)) (omega arith))
-
-first-requires : tie.Need-first-requires
-first-requires c κs = passes-few-rules _ (made (c .before .before))
-
-trial-requires : tie.Need-trial-requires
-trial-requires c κs = made (c .before .before .before)
-
-returns-3 : tie.Need-returns-3
-returns-3 c =
-    let s = c .before .before .before .before .before .before .before .before .before .before .before in
-    let f = c .before .before .before .before .before .before in
-    let l = lists (s .args .set) in
-    let is-made = made (f .before .before .before) in
-    solving-explained (s .args .set) (sized s) _
-    (gives-order l (passes-sound (s .args .set) (sized s) is-made) _ (s .args .set) _ (c .before .before .before .before .before .trial .ensures .0)
-    (every f) (omega (arith, c .before .before .before .if3 .taken))
-    ∙ solving-given (s .args .set) is-made (f .before .if2 .left))
-
-core-requires : tie.Need-core-requires
-core-requires c κs =
-    let s = c .before .before .before .before .before .before .before .before in
-    let f = c .before .before .before in (
-      made (f .before .before .before),
-      subst (λ (g : ℕ → Bool). Searched (lists (s .args .set)) g (c .before .before .trial .result)) (f .first .ensures)
-          (assign-searched _ _ _ (c .before .before .trial .ensures .0)),
-    )
-
-returns-4 : tie.Need-returns-4
-returns-4 c =
-    let s = c .before .before .before .before .before .before .before .before .before in
-    let f = c .before .before .before .before in
-    let l = lists (s .args .set) in
-    let is-made = made (f .before .before .before) in
-    let long : length (c .core .result) ≡ maxRules = search needs in
-    solving-explained (s .args .set) (sized s) _
-    (gives-core l (passes-sound (s .args .set) (sized s) is-made) _ (s .args .set) _ (c .before .before .before .trial .ensures .0) (every f) (c .before .if3 .left)
-    (c .core .result) long (c .core .ensures ∙ ap (coreOf (feasible (problem l))) (sym (passes-counts (s .args .set) (sized s) is-made .1)))
-    ∙ solving-given (s .args .set) is-made (f .before .if2 .left))
+    let lent = c .before in
+    let w = written (lent .before .before) in
+    let s = start (checked w) in
+    explained s _
+    (ap (λ (v : Verdict). record { verdict = v; set = s .args .set }) (c .decide .ensures .0 ∙ ap deciding (w .write-words .ensures))
+    ∙ solving-made (s .args .set) (made (checked w)))
 
 pub solve-spec : {M : Type 1} → statement M
 solve-spec =
     tie.close
-    (tie.spec is-made-requires returns returns-2 first-requires trial-requires returns-3 core-requires returns-4)
+    (tie.spec
+    is-made-requires
+    refused-requires
+    returns
+    slice-aggregate-write-words
+    slice-aggregate-write-words-2
+    write-words-requires
+    mul-n
+    mul-m
+    array-share-prefix-rows
+    slice-aggregate-decide
+    array-share-prefix-rules
+    slice-aggregate-decide-2
+    decide-requires
+    returns-2)

@@ -1,0 +1,9 @@
+pub mod Decimal
+pub mod DecimalLaws
+pub mod Reading
+pub mod Writing
+pub mod ReadBack
+pub mod Parts
+pub mod PartsLaws
+pub mod Line
+pub mod LineWriting

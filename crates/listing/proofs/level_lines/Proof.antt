@@ -1,0 +1,101 @@
+-- `listing::level_lines` meets its contract: the lines of the levels below k stand in the front. Assumes nothing.
+use mathlib.Core.Path.{_≡_, refl, sym, ap, subst, _∙_}
+use mathlib.Core.Bool.{true}
+use mathlib.Core.List.{List, _∷_, []}
+use Prim.Native.Nat.{ℕ, _+_, _-_, _*_, _≤_}
+use native.Mathlib.Omega.{arith}
+use borrow.Author.Needs.{needs}
+use lib.ListN.{length, getD}
+use Rattle.assignment.specs.Search.{index}
+use Rattle.listing.specs.Numbers.{width, HasLines, levelLines}
+use Rattle.listing.specs.NumbersLaws.{has-none, has-in, lines-length-all}
+use Rattle.listing.proofs.level_lines.Statement.{statement}
+use Rattle.listing.proofs.level_lines.Tie as tie
+
+abbrev Inv-loop : tie.InvT-loop
+Inv-loop n numbers₀ order responses k₀ numbers k =
+    (k ≤ n) × (length numbers ≡ length numbers₀) × HasLines (levelLines order responses k) numbers
+
+abbrev μ-loop : tie.MeasureT-loop
+μ-loop n numbers₀ order responses k₀ numbers k = n - k
+
+-- where a turn began
+abbrev start : tie.In-loop Inv-loop μ-loop → tie.Start Inv-loop μ-loop
+start c = c .before .before .before
+
+-- and where one ended, after its line was written
+abbrev turn : tie.After-slice-known2 Inv-loop μ-loop → tie.In-loop Inv-loop μ-loop
+turn c = let put = c .before .before in put .before .before
+
+-- there is room for the next line
+room : (c : tie.In-loop Inv-loop μ-loop) → let at = c .before .loop in width * at .k + width ≤ length (at .numbers)
+room c = let at = c .before .loop in omega (arith, at .inv .1, start c .pre .0, start c .pre .1)
+
+loop-holds : tie.Need-loop-holds Inv-loop μ-loop
+loop-holds c = (omega arith, refl, has-none _ _ _ _)
+
+mul-task : tie.Need-mul-task Inv-loop μ-loop
+mul-task c = omega (arith, start c .pre .0)
+
+element-copy-out-task : tie.Need-element-copy-out-task Inv-loop μ-loop
+element-copy-out-task c = omega (arith, start c .pre .0)
+
+mul-response : tie.Need-mul-response Inv-loop μ-loop
+mul-response c = omega (arith, start c .pre .0)
+
+array-read-response : tie.Need-array-read-response Inv-loop μ-loop
+array-read-response c = omega (arith, start c .pre .0)
+
+mul-put-numbers : tie.Need-mul-put-numbers Inv-loop μ-loop
+mul-put-numbers c = omega (arith, start (c .before) .pre .0)
+
+put-numbers-requires : tie.Need-put-numbers-requires Inv-loop μ-loop
+put-numbers-requires c κs = room (c .before)
+
+add-k : tie.Need-add-k Inv-loop μ-loop
+add-k c = omega (arith, start (turn c) .pre .0)
+
+loop-less : tie.Need-loop-less Inv-loop μ-loop
+loop-less c = omega arith
+
+loop-again : tie.Need-loop-again Inv-loop μ-loop
+loop-again c =
+    let put = c .before .before in
+    let at = turn c .before .loop in
+    let s = start (turn c) in
+    let lines = levelLines (s .args .t1) (s .args .t2) in
+    let count = sym (lines-length-all _ (at .k)) in (
+      omega arith,
+      put .put-numbers .kept .0 ∙ at .inv .1,
+      subst (HasLines (lines (at .k + 1))) (sym (put .put-numbers .ensures))
+          (has-in _ _ _ (at .numbers) (at .k) (at .k) count (omega (arith, s .pre .0)) (omega (arith, at .inv .1, s .pre .1)) refl (at .inv .2) .1),
+    )
+
+same-length : tie.Need-same-length Inv-loop μ-loop
+same-length c = c .before .loop .inv .1
+
+returns : tie.Need-returns Inv-loop μ-loop
+returns c =
+    let at = c .before .loop in
+    let s = c .before .before .before in
+    let whole : at .k ≡ s .args .n = omega (arith, at .inv .0) in
+    rw (← whole) (at .inv .2)
+
+pub level-lines-spec : {M : Type 1} → statement M
+level-lines-spec =
+    tie.close
+    (tie.spec
+    Inv-loop
+    μ-loop
+    loop-holds
+    mul-task
+    element-copy-out-task
+    mul-response
+    array-read-response
+    mul-put-numbers
+    put-numbers-requires
+    add-k
+    loop-less
+    loop-again
+    same-length
+    returns)

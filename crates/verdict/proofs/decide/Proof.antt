@@ -1,0 +1,90 @@
+-- `verdict::decide` meets its contract. Assumes nothing.
+use mathlib.Core.Path.{_≡_, sym, ap, subst, _∙_}
+use Prim.Native.Nat.{_≤_}
+use native.Mathlib.Omega.{arith}
+use borrow.Author.Needs.{needs}
+use lib.ListN.{length}
+use Rattle.sets.specs.Marks.{first, marked}
+use Rattle.taskset.specs.Refusals.{maxRules}
+use Rattle.taskset.specs.Model.{Lists}
+use Rattle.taskset.specs.Words.{listsIn}
+use Rattle.taskset.specs.WordsLaws.{tasks-length, rules-length}
+use Rattle.verdict.specs.declared.Verdict.{Verdict}
+use Rattle.verdict.specs.Verdict.{deciding}
+use Rattle.verdict.specs.Correct.{Correct}
+use Rattle.verdict.specs.Solving.{deciding-13, deciding-on, gives-order, gives-core}
+use Rattle.verdict.specs.Explained.{deciding-correct}
+use Rattle.verdict.proofs.decide.Statement.{statement}
+use Rattle.verdict.proofs.decide.Tie as tie
+
+abbrev given : tie.Start → Lists
+given s = listsIn (s .args .rows .now) (s .args .rules .now)
+
+-- what is decided is correct
+correct : (s : tie.Start) (r : Verdict) → r ≡ deciding (given s)
+    → (r ≡ deciding (given s)) × (1 ≤ length (given s .tasks) → Correct (given s) r)
+correct s r e = (e, λ some. subst (Correct (given s)) (sym e) (deciding-correct (given s) (s .pre) some))
+
+-- there is a task, and every rule is active
+abbrev start : tie.Else1 → tie.Start
+start c = c .before .before .before
+
+some : (c : tie.Else1) → length (given (start c) .tasks) ≡ 0 → ⊥
+some c z = omega (arith, z, tasks-length (start c .args .rows .now))
+
+every : (c : tie.After-first) → marked (c .first .result) ≡ first (length (given (start (c .before)) .rules))
+every c = c .first .ensures ∙ ap first (sym (rules-length (start (c .before) .args .rules .now)))
+
+-- the search that a test of its free levels is about
+abbrev searched : tie.After-struct-known → tie.After-trial
+searched c = c .before .before .before
+
+refused-requires : tie.Need-refused-requires
+refused-requires c κs = search needs
+
+returns : tie.Need-returns
+returns c =
+    let s = c .before .before .before .before in
+    correct s _ (c .refused .ensures ∙ deciding-13 (given s) (omega (arith, tasks-length (s .args .rows .now))))
+
+first-requires : tie.Need-first-requires
+first-requires c κs = let s = start c in omega (arith, s .pre .few-rules, rules-length (s .args .rules .now))
+
+trial-requires : tie.Need-trial-requires
+trial-requires c κs = start (c .before) .pre
+
+returns-2 : tie.Need-returns-2
+returns-2 c =
+    let found = searched (c .before) in
+    let s = start (found .before .before) in
+    correct s _
+    (gives-order (given s) (s .pre) _ _ (found .trial .ensures .0) (every (found .before)) (omega (arith, c .if2 .taken))
+    ∙ deciding-on (given s) (some (found .before .before)))
+
+core-requires : tie.Need-core-requires
+core-requires c κs =
+    let found = searched (c .before) in
+    let s = start (found .before .before) in
+    (s .pre, (every (found .before), (found .trial .ensures .1 .0, omega (arith, c .if2 .left))))
+
+returns-3 : tie.Need-returns-3
+returns-3 c =
+    let found = searched (c .before .before) in
+    let s = start (found .before .before) in
+    let long : length (c .core .result) ≡ maxRules = search needs in
+    correct s _
+    (gives-core (given s) (s .pre) _ _ (found .trial .ensures .0) (every (found .before)) (c .before .if2 .left) (c .core .result) long
+    (c .core .ensures)
+    ∙ deciding-on (given s) (some (found .before .before)))
+
+pub decide-spec : {M : Type 1} → statement M
+decide-spec =
+    tie.close
+    (tie.spec
+    refused-requires
+    returns
+    first-requires
+    trial-requires
+    returns-2
+    core-requires
+    returns-3)

@@ -147,20 +147,20 @@ static uint64_t response(const struct task_set *s, const bool *left, size_t i)
     return 0;
 }
 
-/* Marks the tasks that a rule in play puts above a task that is left. */
-static void mark_held(const struct task_set *s, const bool *in_play, const bool *left, bool *held)
+/* Marks the tasks that an active rule puts above a task that is left. */
+static void mark_held(const struct task_set *s, const bool *active, const bool *left, bool *held)
 {
     memset(held, 0, MAX_TASKS);
     for (size_t k = 0; k < s->nrules; k++)
-        if (in_play[k] && left[s->rules[k].lower])
+        if (active[k] && left[s->rules[k].lower])
             held[s->rules[k].higher] = true;
 }
 
 /* Gives a level to the last task that may take it; false when none may. */
-static bool fill_level(const struct task_set *s, const bool *in_play, bool *left, size_t level, struct order *order)
+static bool fill_level(const struct task_set *s, const bool *active, bool *left, size_t level, struct order *order)
 {
     bool held[MAX_TASKS];
-    mark_held(s, in_play, left, held);
+    mark_held(s, active, left, held);
     for (size_t i = s->ntasks; i-- > 0;) {
         order->task[level] = i;
         order->response[level] = left[i] && !held[i] ? response(s, left, i) : 0;
@@ -173,23 +173,23 @@ static bool fill_level(const struct task_set *s, const bool *in_play, bool *left
 }
 
 /* Fills the levels from the lowest upward; false when no order is valid. */
-static bool find_order(const struct task_set *s, const bool *in_play, struct order *order)
+static bool find_order(const struct task_set *s, const bool *active, struct order *order)
 {
     bool left[MAX_TASKS];
     memset(left, 1, sizeof left);
     for (size_t level = s->ntasks; level-- > 0;)
-        if (!fill_level(s, in_play, left, level, order))
+        if (!fill_level(s, active, left, level, order))
             return false;
     return true;
 }
 
 /* Takes each rule out in turn, and puts it back when an order is found without it. */
-static void find_core(const struct task_set *s, bool *in_play)
+static void find_core(const struct task_set *s, bool *active)
 {
     struct order order;
     for (size_t k = 0; k < s->nrules; k++) {
-        in_play[k] = false;
-        in_play[k] = find_order(s, in_play, &order);
+        active[k] = false;
+        active[k] = find_order(s, active, &order);
     }
 }
 
@@ -245,14 +245,14 @@ static void list_core(const struct task_set *s, const bool *core, struct listing
 static void list_verdict(const struct task_set *s, struct listing *l)
 {
     struct order order;
-    bool in_play[MAX_RULES];
-    memset(in_play, 1, sizeof in_play);
-    if (find_order(s, in_play, &order)) {
+    bool active[MAX_RULES];
+    memset(active, 1, sizeof active);
+    if (find_order(s, active, &order)) {
         list_order(s, &order, l);
         return;
     }
-    find_core(s, in_play);
-    list_core(s, in_play, l);
+    find_core(s, active);
+    list_core(s, active, l);
 }
 
 /* Does what orders_solve does. */

@@ -3,17 +3,17 @@ use mathlib.Core.Path.{_≡_, refl, sym, ap, subst, subst₂, _∙_}
 use mathlib.Core.Bool.{Bool, true, false}
 use mathlib.Core.List.{List, [], _∷_, _++_}
 use mathlib.Core.Logic.{_⊎_, inl, inr}
-use Prim.Native.Nat.{ℕ, _≤_, _<_}
+use Prim.Native.Nat.{ℕ, zero, suc, _-_, _≤_, _<_}
 use native.Mathlib.Nat.{pos-of-ne-zero}
 use native.Mathlib.Omega.{arith}
 use lib.Dec.{leb, eqb}
-use lib.ListN.{length}
+use lib.ListN.{length, replicate}
 use borrow.Author.Tests.{eqb-true, eqb-false, le-leb}
 use Rattle.sets.specs.Choice.{pick, lt-or-le}
 use Rattle.taskset.specs.declared.Call.{Call}
 use Rattle.taskset.specs.declared.Call.the-variants.{AddTask, AddRule}
 use Rattle.taskset.specs.Model.{Lists, noLists, heard, Sound}
-use Rattle.taskset.specs.Words.{taskWords, ruleWords}
+use Rattle.taskset.specs.Words.{taskSize, taskWords, ruleSize, ruleWords}
 use Rattle.taskset.specs.Holding.{none-sound, heard-sound}
 use Rattle.lines.specs.Decimal.{feed}
 use Rattle.lines.specs.Parts.{parts}
@@ -43,11 +43,15 @@ short-words : (ns ws : List ℕ) → Short ns → Words ws → Words (ns ++ ws)
 short-words [] ws s h = h
 short-words (n ∷ ns) ws s h = (omega (arith, s .0), short-words ns ws (s .1) h)
 
+zero-words : (n : ℕ) → Words (replicate n 0)
+zero-words zero = tt
+zero-words (suc n) = (omega arith, zero-words n)
+
 call-words : (bytes : List ℕ) (c : Call) → lineIn bytes ≡ Asks c → Words (callWords c)
 call-words bytes (AddTask t) e = (omega arith, short-words (taskWords t) [] (task-line-exactly bytes t .0 e .1) tt)
 call-words bytes (AddRule r) e =
-    let zeros : Words (0 ∷ 0 ∷ 0 ∷ []) = (omega arith, (omega arith, (omega arith, tt))) in
-    (omega arith, short-words (ruleWords r) (0 ∷ 0 ∷ 0 ∷ []) (rule-line-exactly bytes r .0 e .1) zeros)
+    let n = taskSize - ruleSize in
+    (omega arith, short-words (ruleWords r) (replicate n 0) (rule-line-exactly bytes r .0 e .1) (zero-words n))
 
 asked-words : (ps : List (List ℕ)) → Asked (askedIn ps)
 unfolding askedIn

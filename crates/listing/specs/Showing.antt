@@ -27,7 +27,8 @@ use Rattle.listing.specs.Numbers.{width, maxNumbers, HasLines}
 use Rattle.listing.specs.NumbersLaws.{lines-few, lines-wide, lines-back}
 
 -- the head line of as many lines as the numbers have, and then theirs
-pub listing-parts : (head body : List ℕ) → line head (length body / width ∷ []) ++ linesOf [] (chunks width body) ≡ listingWith head (chunks width body)
+pub listing-parts : (head body : List ℕ) → let lines = chunks width body in
+    line head (length body / width ∷ []) ++ linesOf [] lines ≡ listingWith head lines
 unfolding listingWith
 listing-parts head body = rw (chunks-count width body)
 

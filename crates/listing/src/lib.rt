@@ -82,7 +82,8 @@ fn rule_lines(core: [bool; MAX_RULES], rules: &[u64], numbers: &mut [u64]) -> us
     requires { ⌜ length (rulesIn (now rules)) ≤ maxRules ⌝ }
     requires { ⌜ maxNumbers ≤ length (now numbers) ⌝ }
     ensures { λ r. ⌜ r ≡ length (linesBelow (marked core) (ruleLine (rulesIn (now (rules .entry)))) (length (rulesIn (now (rules .entry))))) ⌝ }
-    ensures lines { λ r. ⌜ HasLines (linesBelow (marked core) (ruleLine (rulesIn (now (rules .entry)))) (length (rulesIn (now (rules .entry))))) (now (numbers .exit)) ⌝ }
+    ensures lines { λ r. ⌜ HasLines (linesBelow (marked core) (ruleLine (rulesIn (now (rules .entry))))
+        (length (rulesIn (now (rules .entry))))) (now (numbers .exit)) ⌝ }
 {
     let n = rules.len() / RULE_WORDS;
     let mut count = 0;
@@ -108,8 +109,10 @@ fn rule_lines(core: [bool; MAX_RULES], rules: &[u64], numbers: &mut [u64]) -> us
 fn write(head: &[u8], numbers: &[u64], out: &mut [u8]) -> Shown
     requires { ⌜ length (now head) ≤ maxHead ⌝ }
     requires { ⌜ length (now numbers) ≤ maxNumbers ⌝ }
-    ensures { λ r. ⌜ r ≡ shownAs (fitted (length (now (out .entry))) (shown (listingWith (now (head .entry)) (chunks width (now (numbers .entry)))))) ⌝ }
-    ensures bytes { λ r. ⌜ now (out .exit) ≡ bufferAfter (fitted (length (now (out .entry))) (shown (listingWith (now (head .entry)) (chunks width (now (numbers .entry)))))) (now (out .entry)) ⌝ }
+    ensures { λ r. ⌜ r ≡ shownAs (fitted (length (now (out .entry)))
+        (shown (listingWith (now (head .entry)) (chunks width (now (numbers .entry)))))) ⌝ }
+    ensures bytes { λ r. ⌜ now (out .exit) ≡ bufferAfter (fitted (length (now (out .entry)))
+        (shown (listingWith (now (head .entry)) (chunks width (now (numbers .entry)))))) (now (out .entry)) ⌝ }
 {
     let n = numbers.len() / WIDTH;
     let count = [n as u64];
@@ -133,7 +136,8 @@ pub fn show(verdict: Verdict, rows: &[u64], rules: &[u64], out: &mut [u8]) -> Sh
     requires { ⌜ length (tasksIn (now rows)) ≤ maxTasks ⌝ }
     requires { ⌜ length (rulesIn (now rules)) ≤ maxRules ⌝ }
     ensures { λ r. ⌜ r ≡ shownAs (fitted (length (now (out .entry))) (outcome (listsIn (now (rows .entry)) (now (rules .entry))) verdict)) ⌝ }
-    ensures bytes { λ r. ⌜ now (out .exit) ≡ bufferAfter (fitted (length (now (out .entry))) (outcome (listsIn (now (rows .entry)) (now (rules .entry))) verdict)) (now (out .entry)) ⌝ }
+    ensures bytes { λ r. ⌜ now (out .exit) ≡ bufferAfter (fitted (length (now (out .entry)))
+        (outcome (listsIn (now (rows .entry)) (now (rules .entry))) verdict)) (now (out .entry)) ⌝ }
 {
     let mut numbers = [0u64; WIDTH * MAX_RULES];
     let answer = verdict.answer;
@@ -157,7 +161,8 @@ pub fn show(verdict: Verdict, rows: &[u64], rules: &[u64], out: &mut [u8]) -> Sh
 // Solves a set and lists the verdict: refusals 14 and 13, then 9.
 pub fn list(set: TaskSet, out: &mut [u8]) -> Listed
     ensures { λ r. ⌜ r ≡ listed set (fitted (length (now (out .entry))) (outcome (lists set) (solving set .verdict))) ⌝ }
-    ensures bytes { λ r. ⌜ now (out .exit) ≡ bufferAfter (fitted (length (now (out .entry))) (outcome (lists set) (solving set .verdict))) (now (out .entry)) ⌝ }
+    ensures bytes { λ r. ⌜ now (out .exit) ≡ bufferAfter (fitted (length (now (out .entry)))
+        (outcome (lists set) (solving set .verdict))) (now (out .entry)) ⌝ }
 {
     if !set.is_made() {
         return Listed {

@@ -217,7 +217,8 @@ fn gather(
     requires { ⌜ room ≤ maxPeriod ⌝ }
     requires { ⌜ maxTasks ≤ length (now kept) ⌝ }
     ensures { λ r. ⌜ r .count ≤ length (now (kept .exit)) ⌝ }
-    ensures stands { λ r. ⌜ StandsFor (tasksIn (now (rows .entry))) (task .0) (marked above) room (r .base) (take (r .count) (now (kept .exit))) (r .start) ⌝ }
+    ensures stands { λ r. ⌜ StandsFor (tasksIn (now (rows .entry))) (task .0) (marked above) room
+        (r .base) (take (r .count) (now (kept .exit))) (r .start) ⌝ }
 {
     let n = rows.len() / TASK_WORDS;
     let own = task_in(rows, task.0);

@@ -9,15 +9,16 @@ use Rattle.sets.specs.Onto.{onto, front-count}
 use Rattle.lines.specs.Decimal.{tab}
 use Rattle.lines.specs.LineWriting.{few-digits, field-long, tabbed, line-long}
 use Rattle.taskset.specs.Model.{Lists}
-use Rattle.text.specs.Text.{Read, reading}
+use Rattle.text.specs.Text.{reading}
 use Rattle.verdict.specs.declared.Verdict.{Verdict}
 use Rattle.verdict.specs.Verdict.{deciding}
 use Rattle.listing.specs.declared.Shown.{Shown}
 use Rattle.listing.specs.Listing.{listing, Outcome, refused, shown, outcome, fitted, shownAs, bufferAfter, maxListing}
+use Rattle.listing.specs.GivenLaws.{Kind, refusal, verdict}
 use Rattle.answer.specs.declared.Answered.{Answered}
-use Rattle.answer.specs.Answer.{outcomeOf, answerTo, lineOf, answered, hostNumber, bad, badLine, printed, report, maxBad}
+use Rattle.answer.specs.Answer.{answerTo, lineOf, answered, hostNumber, bad, badLine, printed, report, maxBad}
 use Rattle.answer.specs.Host.{heardIn, HostGets}
-use Rattle.answer.specs.Replays.{Kind, refusal, verdict, fitted-kind, answer-short, answer-fits, host-gets}
+use Rattle.answer.specs.Replays.{answer-fitted, answer-short, answer-fits, host-gets}
 
 -- a `bad` line is short
 pub bad-short : (line k : ℕ) → line < 2 ^ 64 → k < 2 ^ 64 → length (badLine line k) ≤ maxBad
@@ -87,9 +88,9 @@ module _ (text buffer : List ℕ) (a : Answered) (xs : List ℕ) (said : Answers
 
   -- it is the refusal that is not 0
   is-refused : (a .refusal ≡ 0 → ⊥) → (fit ≡ refused (a .refusal)) × (a .line ≡ lineOf text)
-  is-refused nonzero = go fit (fitted-kind text (length buffer)) (said .0)
+  is-refused nonzero = go fit (answer-fitted text (length buffer)) (said .0)
     where
-      go : (o : Outcome) → Kind text o → a ≡ answered (lineOf text) o → (o ≡ refused (a .refusal)) × (a .line ≡ lineOf text)
+      go : (o : Outcome) → Kind (heardIn text) o → a ≡ answered (lineOf text) o → (o ≡ refused (a .refusal)) × (a .line ≡ lineOf text)
       go o (refusal k some few) e = rw e (refl, refl)
       go o (verdict some) e = absurd (nonzero (rw e))
 
@@ -98,9 +99,9 @@ module _ (text buffer : List ℕ) (a : Answered) (xs : List ℕ) (said : Answers
   bytes = listing (heardIn text) (deciding (heardIn text))
 
   is-shown : a .refusal ≡ 0 → (fit ≡ shown bytes) × (a .count ≡ length bytes) × (a .count ≤ maxListing)
-  is-shown good = go fit (fitted-kind text (length buffer)) (said .0)
+  is-shown good = go fit (answer-fitted text (length buffer)) (said .0)
     where
-      go : (o : Outcome) → Kind text o → a ≡ answered (lineOf text) o
+      go : (o : Outcome) → Kind (heardIn text) o → a ≡ answered (lineOf text) o
           → (o ≡ shown bytes) × (a .count ≡ length bytes) × (a .count ≤ maxListing)
       go o (refusal k some few) e = absurd (omega (arith, good, ap (λ (b : Answered). b .refusal) e))
       go o (verdict some) e = rw e (refl, refl, answer-short text some)

@@ -1,18 +1,18 @@
 -- What a host gets is what replaying the text's lines as calls gives, so demand 3 covers it. Assumes nothing.
-use mathlib.Core.Path.{_≡_, refl, sym, ap, subst, subst₂, _∙_}
+use mathlib.Core.Path.{_≡_, refl, sym, subst, subst₂}
 use mathlib.Core.Bool.{Bool, true, false}
 use mathlib.Core.List.{List, [], _∷_, _++_}
-use mathlib.Core.Logic.{_⊎_, inl, inr}
-use Prim.Native.Nat.{ℕ, zero, suc, _-_, _≤_, _<_}
+use Prim.Native.Nat.{ℕ, zero, suc, _+_, _-_, _≤_}
 use native.Mathlib.Nat.{pos-of-ne-zero}
 use native.Mathlib.Omega.{arith}
-use lib.Dec.{leb, eqb}
+use lib.Dec.{eqb}
 use lib.ListN.{length, replicate}
 use borrow.Author.Tests.{eqb-true, eqb-false, le-leb}
-use Rattle.sets.specs.Choice.{pick, lt-or-le}
+use Rattle.sets.specs.Choice.{pick}
+use Rattle.sets.specs.Onto.{onto}
 use Rattle.taskset.specs.declared.Call.{Call}
 use Rattle.taskset.specs.declared.Call.the-variants.{AddTask, AddRule}
-use Rattle.taskset.specs.Model.{Lists, noLists, heard, Sound}
+use Rattle.taskset.specs.Model.{Lists, noLists, Sound}
 use Rattle.taskset.specs.Words.{taskSize, taskWords, ruleSize, ruleWords}
 use Rattle.taskset.specs.Holding.{none-sound, heard-sound}
 use Rattle.lines.specs.Decimal.{feed}
@@ -22,19 +22,18 @@ use Rattle.text.specs.declared.Line.the-variants.{Asks, Unreadable}
 use Rattle.text.specs.Text.{lineIn, reading, asking, askedIn, callsAsked}
 use Rattle.text.specs.Accepted.{Short, task-line-exactly, rule-line-exactly}
 use Rattle.text.specs.Asking.{reading-runs, reading-small}
-use Rattle.verdict.specs.declared.Verdict.{Verdict}
 use Rattle.verdict.specs.Verdict.{deciding}
-use Rattle.verdict.specs.Correct.{Correct}
-use Rattle.verdict.specs.Solving.{deciding-13}
 use Rattle.verdict.specs.Explained.{deciding-correct}
 use Rattle.replay.specs.Calls.{callsIn, callWords, Words, Asked}
 use Rattle.replay.specs.Replaying.{every-list}
 use Rattle.replay.specs.Theorem.{replay-decides}
-use Rattle.listing.specs.Listing.{listing, Outcome, refused, shown, outcome, fitted, bufferAfter, maxListing}
+use Rattle.listing.specs.Listing.{listing, Outcome, refused, outcome, fitted, bufferAfter, maxListing}
+use Rattle.listing.specs.Given.{Gives}
+use Rattle.listing.specs.GivenLaws.{Kind, refusal, verdict, fitted-kind, decided-kind, gives}
 use Rattle.listing.specs.Showing.{outcome-shown}
 use Rattle.listing.specs.Short.{deciding-short}
 use Rattle.answer.specs.Answer.{answerTo, hostNumber}
-use Rattle.answer.specs.Host.{heardIn, verdictFor, HostGets}
+use Rattle.answer.specs.Host.{heardIn, HostGets}
 
 -- ---- the lines' calls are words that `replay` can be handed
 
@@ -74,65 +73,41 @@ module _ (text : List ℕ) where
   sound : Sound l
   sound = heard-sound noLists none-sound (callsAsked text)
 
-  abbrev HasTasks : Type 0
-  HasTasks = 1 ≤ length (l .tasks)
-
-  pub data Kind : Outcome → Type 0 where
-    refusal : (k : ℕ) → 1 ≤ k → k < 100 → Kind (refused k)
-    verdict : HasTasks → Kind (shown (listing l (deciding l)))
-
-  -- the verdict is shown if there is a task
-  shows : HasTasks → outcome l (deciding l) ≡ shown (listing l (deciding l))
-  shows some = outcome-shown l (deciding l) (deciding-correct l sound some .one)
-
-  decided-kind : Kind (outcome l (deciding l))
-  decided-kind = go (lt-or-le (length (l .tasks)) 1)
-    where
-      go : (length (l .tasks) < 1) ⊎ HasTasks → Kind (outcome l (deciding l))
-      go (inl none) = subst Kind (ap (outcome l) (deciding-13 l (omega arith))) (refusal 13 (omega arith) (omega arith))
-      go (inr some) = subst Kind (sym (shows some)) (verdict some)
-
-  answer-kind : Kind (answerTo text)
+  answer-kind : Kind l (answerTo text)
   answer-kind = go (eqb (reading text .refusal) 0) refl
     where
       go : (b : Bool) → eqb (reading text .refusal) 0 ≡ b
-          → Kind (pick b (outcome (reading text .lists) (deciding (reading text .lists))) (refused (reading text .refusal)))
+          → Kind l (pick b (outcome (reading text .lists) (deciding (reading text .lists))) (refused (reading text .refusal)))
       go false e = refusal _ (pos-of-ne-zero (eqb-false (reading text .refusal) 0 e)) (reading-small text)
-      go true e = rw (reading-runs text (eqb-true (reading text .refusal) 0 e) .0) decided-kind
+      go true e = rw (reading-runs text (eqb-true (reading text .refusal) 0 e) .0) (decided-kind l sound)
 
   -- so also in a buffer
-  pub fitted-kind : (room : ℕ) → Kind (fitted room (answerTo text))
-  fitted-kind room = go (answerTo text) answer-kind
-    where
-      short : HasTasks → (b : Bool) → Kind (pick b (shown (listing l (deciding l))) (refused 9))
-      short some true = verdict some
-      short some false = refusal 9 (omega arith) (omega arith)
-
-      go : (o : Outcome) → Kind o → Kind (fitted room o)
-      go o (refusal k some few) = refusal k some few
-      go o (verdict some) = short some (leb (length (listing l (deciding l))) room)
+  pub answer-fitted : (room : ℕ) → Kind l (fitted room (answerTo text))
+  answer-fitted room = fitted-kind l room (answerTo text) answer-kind
 
   -- ---- a buffer of maxListing bytes is always long enough
 
-  pub answer-short : HasTasks → length (listing l (deciding l)) ≤ maxListing
-  answer-short some = deciding-short l sound (listing l (deciding l)) (shows some)
+  pub answer-short : 1 ≤ length (l .tasks) → length (listing l (deciding l)) ≤ maxListing
+  answer-short some = deciding-short l sound (listing l (deciding l)) (outcome-shown l (deciding l) (deciding-correct l sound some .one))
 
   pub answer-fits : (room : ℕ) → maxListing ≤ room → fitted room (answerTo text) ≡ answerTo text
   answer-fits room h = go (answerTo text) answer-kind
     where
-      go : (o : Outcome) → Kind o → fitted room o ≡ o
+      go : (o : Outcome) → Kind l o → fitted room o ≡ o
       go o (refusal k some few) = refl
       go o (verdict some) = rw (le-leb (length (listing l (deciding l))) room (omega (arith, answer-short some)))
 
--- ---- so the call does what it should
+  -- ---- so the call does what it should
 
-pub host-gets : (text was is : List ℕ) (r : ℕ) → r ≡ hostNumber (fitted (length was) (answerTo text))
-    → is ≡ bufferAfter (fitted (length was) (answerTo text)) was → HostGets text r was is
-unfolding HostGets
-host-gets text was is r e f =
-    subst₂ (λ (n : ℕ) (bytes : List ℕ). HostGets text n was bytes) (sym e) (sym f) (go _ (fitted-kind text (length was)))
-  where
-    go : (o : Outcome) → Kind text o → HostGets text (hostNumber o) was (bufferAfter o was)
-    go o (refusal k some few) big = absurd (omega arith)
-    go o (verdict some) big =
-        rw (replay-decides (callsAsked text)) (refl, refl, deciding-correct (heardIn text) (heard-sound noLists none-sound (callsAsked text)) some)
+  pub host-gets : (was is : List ℕ) (r : ℕ) → r ≡ hostNumber (fitted (length was) (answerTo text))
+      → is ≡ bufferAfter (fitted (length was) (answerTo text)) was → HostGets text r was is
+  unfolding HostGets
+  host-gets was is r e f =
+      subst₂ (λ (n : ℕ) (bytes : List ℕ). HostGets text n was bytes) (sym e) (sym f) (go _ (answer-fitted (length was)))
+    where
+      go : (o : Outcome) → Kind l o → HostGets text (hostNumber o) was (bufferAfter o was)
+      go o (refusal k some few) big = absurd (omega arith)
+      go o (verdict some) big =
+          let bytes = listing l (deciding l) in
+          let count : length bytes ≡ 100 + length bytes - 100 = omega arith in
+          rw (replay-decides (callsAsked text)) (subst (λ (n : ℕ). Gives l (deciding l) n was (onto bytes was)) count (gives l sound some was))

@@ -1,6 +1,6 @@
 -- The revised Audsley assignment of source document 001, over any test of a task at a level: levels are filled from the lowest
--- upward, and of the tasks that may take one the task with the greatest index takes it. Document 01 leaves the choice free;
--- `Decision` proves that it doesn't matter for whether an order is found. Assumes nothing.
+-- upward, and of the tasks that may take one the task with the greatest index takes it, as document 02 has it in (a). `Canonical`
+-- says that without the search; for whether an order is found the choice doesn't matter (`Decision`). Assumes nothing.
 use mathlib.Core.Bool.{Bool, true, false, _&&_, not}
 use mathlib.Core.List.{List, [], _∷_}
 use Prim.Native.Nat.{ℕ, zero, suc, _<_}
@@ -36,6 +36,9 @@ withoutRules p = record { tasks = p .tasks; rules = []; test = p .test }
 
 abbrev pub passes : Problem → ℕ → (ℕ → Bool) → Bool
 passes p i above = isWithin (p .test i above)
+
+abbrev pub Passes : Problem → ℕ → (ℕ → Bool) → Type 0
+Passes p i above = T (passes p i above)
 
 -- rule k is active, and puts below task i a task that is left without a level
 abbrev pub blocks : List Rule → (ℕ → Bool) → (ℕ → Bool) → ℕ → ℕ → Bool

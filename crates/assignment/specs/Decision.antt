@@ -1,29 +1,29 @@
 -- The revised Audsley assignment is right for any test that fewer tasks above can't break: what it fills is a valid order, and
 -- where it gets stuck there is none. So it decides, for any active rules, whether a valid order exists; from any levels that
 -- it could have filled it goes on to the same answer. Assumes nothing.
-use mathlib.Core.Path.{_≡_, refl, sym, ap, subst, _∙_, fun-ext}
-use mathlib.Core.Bool.{Bool, true, false, _&&_, not}
+use mathlib.Core.Path.{_≡_, sym, ap, subst, _∙_}
+use mathlib.Core.Bool.{Bool, _&&_, not}
 use mathlib.Core.List.{List, [], _∷_}
 use mathlib.Core.Logic.{_⊎_, inl, inr, ⊎-elim, _↔_}
 use mathlib.Core.Option.{Option}
 use Prim.Native.Nat.{ℕ, zero, suc, _+_, _≤_, _<_}
 use native.Mathlib.Nat.{not-suc-le-zero, le-of-suc-le-suc, eq-or-lt-of-le, eq-zero-or-pos}
 use native.Mathlib.Omega.{arith}
-use lib.Dec.{T, leb, ltb, eqb, leb→le, ltb→lt, lt→ltb, eqb→eq, eqb-refl, leb·suc-suc, leb·suc-zero}
+use lib.Dec.{T, eqb, lt→ltb, eqb→eq, eqb-refl}
 use lib.ListN.{length, getD, drop, length-drop}
-use lib.Seq.{drop-cons, getD-drop}
-use borrow.Author.Tests.{leb-false, eq-eqb}
-use Rattle.sets.specs.Choice.{pick, option, true→T, refuted→false, not→refuted, refuted→not, decided}
-use Rattle.sets.specs.Choice.{lt-or-le, same-test, and-intro, and-left, and-right}
+use lib.Seq.{getD-drop}
+use borrow.Author.Tests.{eq-eqb}
+use Rattle.sets.specs.Choice.{option, true→T, not→refuted, refuted→not, decided, lt-or-le, and-intro, and-left, and-right}
 use Rattle.sets.specs.Bounded.{Subset, without, without-still, without-other, all, all-at, all-of}
-use Rattle.sets.specs.Bounded.{greatest, IsGreatest, Greatest, found, nothing, greatest-is}
-use Rattle.sets.specs.Bounded.{count, count-less, count-but, count-whole, count-some, count-pos}
-use Rattle.sets.specs.Rank.{rank, Member, Distinct, getD-rank, getD-member, rank-getD, drop-rank, rank-drop}
+use Rattle.sets.specs.Bounded.{greatest, IsGreatest, Greatest, found, nothing, greatest-is, count, count-some, count-pos}
+use Rattle.sets.specs.Rank.{rank, Distinct, getD-rank, rank-getD, distinct-cons}
 use Rattle.taskset.specs.declared.Rule.{Rule}
 use Rattle.taskset.specs.Model.{ruleAt}
-use Rattle.assignment.specs.Orders.{IsOrder, hp, Keeps, Valid, noRule}
-use Rattle.assignment.specs.Audsley.{Problem, withoutRules, passes, unassigned, blocks, ready, mayTake}
+use Rattle.assignment.specs.Orders.{IsOrder, hp, Valid, noRule}
+use Rattle.assignment.specs.Canonical.{MayTake}
+use Rattle.assignment.specs.Audsley.{Problem, withoutRules, passes, Passes, unassigned, blocks, ready, mayTake}
 use Rattle.assignment.specs.Audsley.{fill, assign, feasible, Filled, empty, level, Stuck}
+use Rattle.assignment.specs.Levels.{unassigned-of, unassigned-is, assigned, levels-count, left-unassigned, takes-valid}
 
 -- what the argument asks of a problem: rules between its tasks, and a test that fewer tasks above can't break
 pub record Lawful (p : Problem) : Type 0 where
@@ -31,97 +31,47 @@ pub record Lawful (p : Problem) : Type 0 where
       → (ruleAt (p .rules) k .higher .0 < p .tasks) × (ruleAt (p .rules) k .lower .0 < p .tasks)
   pub fewer : (i : ℕ) (less above : ℕ → Bool) → Subset (p .tasks) less above → T (passes p i above) → T (passes p i less)
 
--- ---- who has a level
-
-module _ (n : ℕ) where
-  unassigned-of : (low : List ℕ) (i : ℕ) → i < n → (Member low i → ⊥) → T (unassigned n low i)
-  unfolding unassigned
-  unassigned-of low i h out =
-      and-intro (ltb i n) (leb (length low) (rank low i)) (lt→ltb i n h)
-      (⊎-elim (λ t. t) (λ r. absurd (out (leb-false (length low) (rank low i) (refuted→false (leb (length low) (rank low i)) r))))
-      (decided (leb (length low) (rank low i))))
-
-  unassigned-is : (low : List ℕ) (i : ℕ) → T (unassigned n low i) → (i < n) × (Member low i → ⊥)
-  unfolding unassigned
-  unassigned-is low i t = (
-    ltb→lt i n (and-left (ltb i n) (leb (length low) (rank low i)) t),
-    λ m. let h = leb→le (length low) (rank low i) (and-right (ltb i n) (leb (length low) (rank low i)) t) in omega arith,
-  )
-
-  assigned : (low : List ℕ) (i : ℕ) → i < n → (T (unassigned n low i) → ⊥) → Member low i
-  assigned low i h out = ⊎-elim (λ m. m) (λ g. absurd (out (unassigned-of low i h (λ m. omega arith)))) (lt-or-le (rank low i) (length low))
-
-  -- one level more leaves all but its task
-  pub unassigned-cons : (low : List ℕ) (i : ℕ) → unassigned n (i ∷ low) ≡ without (unassigned n low) i
-  unfolding unassigned
-  unassigned-cons low i = fun-ext (λ j. go j (eqb i j) (ltb j n))
-    where
-      go : (j : ℕ) (b c : Bool)
-          → (c && leb (suc (length low)) (pick b 0 (suc (rank low j)))) ≡ pick b false (c && leb (length low) (rank low j))
-      go j true true = leb·suc-zero (length low)
-      go j true false = refl
-      go j false true = leb·suc-suc (length low) (rank low j)
-      go j false false = refl
-
 -- ---- levels that tasks may have taken
 
 module _ (p : Problem) (active : ℕ → Bool) where
+  -- the test of who may take a level says what the words say
   module _ (left : ℕ → Bool) (i : ℕ) where
-    may-ready : T (mayTake p active left i) → T (ready (p .rules) active left i)
-    unfolding mayTake
-    may-ready = and-left (ready (p .rules) active left i) (passes p i (without left i))
+    abbrev unblocked : ℕ → Bool
+    unblocked k = not (blocks (p .rules) active left i k)
 
-    may-pass : T (mayTake p active left i) → T (passes p i (without left i))
-    unfolding mayTake
-    may-pass = and-right (ready (p .rules) active left i) (passes p i (without left i))
+    abbrev May : Type 0
+    May = MayTake (p .rules) (Passes p) active left i
 
-    may-of : T (ready (p .rules) active left i) → T (passes p i (without left i)) → T (mayTake p active left i)
-    unfolding mayTake
-    may-of = and-intro (ready (p .rules) active left i) (passes p i (without left i))
+    pub may-takes : T (mayTake p active left i) → May
+    unfolding mayTake ready
+    may-takes t =
+        let able = and-left (ready (p .rules) active left i) (passes p i (without left i)) t in
+        record {
+          waits = and-left (left i) (all (length (p .rules)) unblocked) able;
+          below = λ k h on e f.
+              let u = ruleAt (p .rules) k .higher .0 in
+              let l = left (ruleAt (p .rules) k .lower .0) in
+              not→refuted (blocks (p .rules) active left i k)
+              (all-at (length (p .rules)) unblocked (and-right (left i) (all (length (p .rules)) unblocked) able) k h)
+              (and-intro (active k && l) (eqb u i) (and-intro (active k) l on f) (subst (λ (j : ℕ). T (eqb u j)) e (eqb-refl u)));
+          meets = and-right (ready (p .rules) active left i) (passes p i (without left i)) t;
+        }
 
-    ready-left : T (ready (p .rules) active left i) → T (left i)
-    unfolding ready
-    ready-left = and-left (left i) (all (length (p .rules)) (λ k. not (blocks (p .rules) active left i k)))
-
-    -- what an active rule puts below a ready task is not left
-    ready-below : T (ready (p .rules) active left i) → (k : ℕ) → k < length (p .rules) → T (active k)
-        → ruleAt (p .rules) k .higher .0 ≡ i → T (left (ruleAt (p .rules) k .lower .0)) → ⊥
-    unfolding ready
-    ready-below t k h on e f =
-        let u = ruleAt (p .rules) k .higher .0 in
-        let l = left (ruleAt (p .rules) k .lower .0) in
-        not→refuted (blocks (p .rules) active left i k)
-        (all-at (length (p .rules)) (λ k. not (blocks (p .rules) active left i k)) (and-right (left i) _ t) k h)
-        (and-intro (active k && l) (eqb u i) (and-intro (active k) l on f) (subst (λ (j : ℕ). T (eqb u j)) e (eqb-refl u)))
-
-    ready-of : T (left i)
-        → ((k : ℕ) → k < length (p .rules) → T (active k) → ruleAt (p .rules) k .higher .0 ≡ i → T (left (ruleAt (p .rules) k .lower .0)) → ⊥)
-        → T (ready (p .rules) active left i)
-    unfolding ready
-    ready-of t each =
-        and-intro (left i) _ t
-        (all-of (length (p .rules)) (λ k. not (blocks (p .rules) active left i k))
+    pub takes-may : May → T (mayTake p active left i)
+    unfolding mayTake ready
+    takes-may m =
+        and-intro (ready (p .rules) active left i) (passes p i (without left i))
+        (and-intro (left i) (all (length (p .rules)) unblocked) (m .waits)
+        (all-of (length (p .rules)) unblocked
         (λ k h. refuted→not (blocks (p .rules) active left i k) (λ b.
         let u = ruleAt (p .rules) k .higher .0 in
         let l = left (ruleAt (p .rules) k .lower .0) in
         let both = and-left (active k && l) (eqb u i) b in
-        each k h (and-left (active k) l both) (eqb→eq u i (and-right (active k && l) (eqb u i) b)) (and-right (active k) l both))))
+        m .below k h (and-left (active k) l both) (eqb→eq u i (and-right (active k && l) (eqb u i) b)) (and-right (active k) l both)))))
+        (m .meets)
 
   may-unassigned : (low : List ℕ) (i : ℕ) → T (mayTake p active (unassigned (p .tasks) low) i) → T (unassigned (p .tasks) low i)
-  may-unassigned low i t = ready-left (unassigned (p .tasks) low) i (may-ready (unassigned (p .tasks) low) i t)
-
-  -- the tasks without a level and those with one make up all
-  pub filled-count : (low : List ℕ) → Filled p active low → count (p .tasks) (unassigned (p .tasks) low) + length low ≡ p .tasks
-  filled-count all empty =
-      let whole = count-whole (p .tasks) (unassigned (p .tasks) []) (λ j h. unassigned-of (p .tasks) [] j h not-suc-le-zero) in
-      omega arith
-  filled-count all (level i low h t f) =
-      let n = p .tasks in
-      let here = may-unassigned low i t in
-      let all = unassigned (p .tasks) low in
-      let less = count-less n (without all i) all (λ j l s. without-still all i j s .0) i h here (λ s. without-still all i i s .1 refl) in
-      let but = count-but n (without all i) all i (λ j l s apart. without-other all i j (λ e. apart (sym e)) s) in
-      omega (arith, filled-count low f, ap (count n) (unassigned-cons (p .tasks) low i))
+  may-unassigned low i t = may-takes (unassigned (p .tasks) low) i t .waits
 
   -- each level was given to a task that might take it
   filled-at : (low : List ℕ) → Filled p active low → (k : ℕ) → k < length low
@@ -145,7 +95,7 @@ module _ (p : Problem) (active : ℕ → Bool) where
       let at = suc k + rank rest j in
       let same : getD low at 0 ≡ j = sym (getD-drop (suc k) low (rank rest j) 0) ∙ getD-rank rest j m in
       out at (omega arith) (omega (arith, m, length-drop (suc k) low)) (subst (λ (q : ℕ). T (left q)) (sym same) (still .0)))))
-      (may-pass (unassigned (p .tasks) rest) i (filled-at low f k h))
+      (may-takes (unassigned (p .tasks) rest) i (filled-at low f k h) .meets)
 
   pub filled-only : (low : List ℕ) → Filled p active low → (k : ℕ) → k < length low → getD low k 0 < p .tasks
   filled-only all empty k h = absurd (not-suc-le-zero h)
@@ -154,18 +104,16 @@ module _ (p : Problem) (active : ℕ → Bool) where
 
   filled-once : (low : List ℕ) → Filled p active low → Distinct low
   filled-once all empty = λ i j l h. absurd (not-suc-le-zero h)
-  filled-once all (level i low l t f) = go (filled-once low f)
-    where
-      go : Distinct low → Distinct (i ∷ low)
-      go tail zero zero h k = absurd (not-suc-le-zero h)
-      go tail zero (suc b) h k = λ e.
-          unassigned-is (p .tasks) low i (may-unassigned low i t) .1 (subst (Member low) (sym e) (getD-member low b (le-of-suc-le-suc k)))
-      go tail (suc a) zero h k = absurd (not-suc-le-zero h)
-      go tail (suc a) (suc b) h k = tail a b (le-of-suc-le-suc h) (le-of-suc-le-suc k)
+  filled-once all (level i low l t f) =
+      distinct-cons i low (unassigned-is (p .tasks) low i (may-unassigned low i t) .1) (filled-once low f)
+
+  -- the tasks without a level and those with one make up all
+  pub filled-count : (low : List ℕ) → Filled p active low → count (p .tasks) (unassigned (p .tasks) low) + length low ≡ p .tasks
+  filled-count low f = levels-count (p .tasks) low (filled-only low f) (filled-once low f)
 
   -- ---- sound
 
-  module _ (lawful : Lawful p) (order : List ℕ) (f : Filled p active order) (long : length order ≡ p .tasks) where
+  module _ (order : List ℕ) (f : Filled p active order) (long : length order ≡ p .tasks) where
     filled-order : IsOrder (p .tasks) order
     filled-order =
         record {
@@ -176,61 +124,17 @@ module _ (p : Problem) (active : ℕ → Bool) where
           once = filled-once order f;
         }
 
-    -- the tasks before a task are those that had no level when it got its own
-    pub before-unassigned : (k : ℕ) → k < length order → hp order (getD order k 0) ≡ unassigned (p .tasks) (drop k order)
-    before-unassigned k h = fun-ext (λ j. same-test (hp order (getD order k 0) j) (unassigned (p .tasks) (drop k order) j) (higher j) (lower j))
-      where
-        at : rank order (getD order k 0) ≡ k
-        at = rank-getD order (filled-once order f) k h
-
-        higher : (j : ℕ) → T (hp order (getD order k 0) j) → T (unassigned (p .tasks) (drop k order) j)
-        higher j t =
-            let first = ltb→lt (rank order j) (rank order (getD order k 0)) t in
-            let member : Member order j = omega (arith, at, first) in
-            unassigned-of (p .tasks) (drop k order) j (omega (arith, getD-rank order j member, filled-only order f (rank order j) member))
-            (λ m. omega (arith, at, first, drop-rank order (filled-once order f) k j m))
-
-        lower : (j : ℕ) → T (unassigned (p .tasks) (drop k order) j) → T (hp order (getD order k 0) j)
-        lower j t =
-            let is = unassigned-is (p .tasks) (drop k order) j t in
-            lt→ltb (rank order j) (rank order (getD order k 0))
-            (⊎-elim (λ l. omega (arith, at, l)) (λ g. absurd (is .1 (rank-drop order k j (filled-order .every j (is .0)) g)))
-            (lt-or-le (rank order j) k))
-
-    passes-at : (k : ℕ) → k < length order → T (passes p (getD order k 0) (hp order (getD order k 0)))
-    passes-at k h =
-        let rest = drop (suc k) order in
-        subst (λ (above : ℕ → Bool). T (passes p (getD order k 0) above))
-        (sym (unassigned-cons (p .tasks) rest (getD order k 0))
-        ∙ ap (unassigned (p .tasks)) (sym (drop-cons order k 0 h))
-        ∙ sym (before-unassigned k h))
-        (may-pass (unassigned (p .tasks) rest) (getD order k 0) (filled-at order f k h))
-
-    keeps-at : (k : ℕ) → k < length (p .rules) → T (active k) → Keeps order (ruleAt (p .rules) k)
-    keeps-at k h on =
-        let u = ruleAt (p .rules) k .higher .0 in
-        let l = ruleAt (p .rules) k .lower .0 in
-        let here = filled-order .every u (lawful .indices k h .0) in
-        let rest = drop (suc (rank order u)) order in
-        let took =
-        subst (λ (i : ℕ). T (mayTake p active (unassigned (p .tasks) rest) i)) (getD-rank order u here) (filled-at order f (rank order u) here) in
-        let given = ready-below (unassigned (p .tasks) rest) u (may-ready (unassigned (p .tasks) rest) u took) k h on refl in
-        drop-rank order (filled-once order f) (suc (rank order u)) l (assigned (p .tasks) rest l (lawful .indices k h .1) given)
-
-    pub filled-valid : Valid (p .tasks) (p .rules) (λ i above. T (passes p i above)) active order
-    filled-valid =
-        record {
-          isOrder = filled-order;
-          keeps = keeps-at;
-          meets = λ i h.
-              let here = filled-order .every i h in
-              subst (λ (j : ℕ). T (passes p j (hp order j))) (getD-rank order i here) (passes-at (rank order i) here);
-        }
+    pub filled-valid : Lawful p → Valid (p .tasks) (p .rules) (Passes p) active order
+    filled-valid lawful =
+        takes-valid filled-order (λ k h. lawful .indices k h .0)
+        (λ k h.
+        rw (left-unassigned filled-order k h)
+        (may-takes (unassigned (p .tasks) (drop (suc k) order)) (getD order k 0) (filled-at order f k h)))
 
   -- ---- complete
 
   -- where a valid order exists, some task may take the next level: of those without one, the last in that order
-  module _ (lawful : Lawful p) (order : List ℕ) (v : Valid (p .tasks) (p .rules) (λ i above. T (passes p i above)) active order) (low : List ℕ) where
+  module _ (lawful : Lawful p) (order : List ℕ) (v : Valid (p .tasks) (p .rules) (Passes p) active order) (low : List ℕ) where
     abbrev leftAt : ℕ → Bool
     leftAt r = unassigned (p .tasks) low (getD order r 0)
 
@@ -241,8 +145,12 @@ module _ (p : Problem) (active : ℕ → Bool) where
 
     last-may : (r : ℕ) → IsGreatest (length order) leftAt r → T (mayTake p active (unassigned (p .tasks) low) (getD order r 0))
     last-may r g =
-        may-of (unassigned (p .tasks) low) i is-ready
-        (lawful .fewer i (without (unassigned (p .tasks) low) i) (hp order i) under (v .meets i (v .isOrder .only r (g .below))))
+        takes-may (unassigned (p .tasks) low) i
+        (record {
+          waits = g .passes;
+          below = λ k h on e t. omega (arith, v .keeps k h on, last (ruleAt (p .rules) k .lower .0) t, ap (rank order) e, at);
+          meets = lawful .fewer i (without (unassigned (p .tasks) low) i) (hp order i) under (v .meets i (v .isOrder .only r (g .below)));
+        })
       where
         i : ℕ
         i = getD order r 0
@@ -253,11 +161,6 @@ module _ (p : Problem) (active : ℕ → Bool) where
         -- nobody without a level stands further down
         last : (j : ℕ) → T (unassigned (p .tasks) low j) → rank order j ≤ r
         last j t = ⊎-elim (λ l. absurd (g .last (rank order j) (left-at j t .0) l (left-at j t .1))) (λ h. h) (lt-or-le r (rank order j))
-
-        is-ready : T (ready (p .rules) active (unassigned (p .tasks) low) i)
-        is-ready =
-            ready-of (unassigned (p .tasks) low) i (g .passes)
-            (λ k h on e t. omega (arith, v .keeps k h on, last (ruleAt (p .rules) k .lower .0) t, ap (rank order) e, at))
 
         under : Subset (p .tasks) (without (unassigned (p .tasks) low) i) (hp order i)
         under j h t =
@@ -277,31 +180,40 @@ module _ (p : Problem) (active : ℕ → Bool) where
 
   -- ---- a decision
 
-  -- the levels filled, and either all are or no task may take the next
-  abbrev Ends : List ℕ → Type 0
-  Ends low = Filled p active low × ((length low ≡ p .tasks) ⊎ Stuck p active (unassigned (p .tasks) low))
+  -- levels with this property, and either all are filled or no task may take the next
+  abbrev EndsWith : (List ℕ → Type 0) → List ℕ → Type 0
+  EndsWith Kept low = Kept low × ((length low ≡ p .tasks) ⊎ Stuck p active (unassigned (p .tasks) low))
 
-  fill-ends : (levels : ℕ) (low : List ℕ) → levels + length low ≡ p .tasks → Filled p active low
-      → Ends (fill p active levels low)
-  unfolding fill
-  fill-ends zero low e f = (f, inl (omega arith))
-  fill-ends (suc levels) low e f =
-      go (greatest (p .tasks) (mayTake p active (unassigned (p .tasks) low))) (greatest-is (p .tasks) (mayTake p active (unassigned (p .tasks) low)))
-      (λ i h t. fill-ends levels (i ∷ low) (omega arith) (level i low h t f))
-    where
-      go : (o : Option ℕ) → Greatest (p .tasks) (mayTake p active (unassigned (p .tasks) low)) o
-          → ((i : ℕ) → i < p .tasks → T (mayTake p active (unassigned (p .tasks) low) i) → Ends (fill p active levels (i ∷ low)))
-          → Ends (option low (λ i. fill p active levels (i ∷ low)) o)
-      go o (found i g) later = later i (g .below) (g .passes)
-      go o (nothing out) later = (f, inr out)
+  abbrev Ends : List ℕ → Type 0
+  Ends = EndsWith (Filled p active)
+
+  -- what each level keeps that goes to the greatest index holds where the assignment ends
+  module _ (Kept : List ℕ → Type 0)
+      (more : (i : ℕ) (low : List ℕ) → IsGreatest (p .tasks) (mayTake p active (unassigned (p .tasks) low)) i → Kept low → Kept (i ∷ low)) where
+    fill-ends : (levels : ℕ) (low : List ℕ) → levels + length low ≡ p .tasks → Kept low → EndsWith Kept (fill p active levels low)
+    unfolding fill
+    fill-ends zero low e kept = (kept, inl (omega arith))
+    fill-ends (suc levels) low e kept =
+        go (greatest (p .tasks) (mayTake p active (unassigned (p .tasks) low)))
+        (greatest-is (p .tasks) (mayTake p active (unassigned (p .tasks) low)))
+        (λ i g. fill-ends levels (i ∷ low) (omega arith) (more i low g kept))
+      where
+        go : (o : Option ℕ) → Greatest (p .tasks) (mayTake p active (unassigned (p .tasks) low)) o
+            → ((i : ℕ) → IsGreatest (p .tasks) (mayTake p active (unassigned (p .tasks) low)) i → EndsWith Kept (fill p active levels (i ∷ low)))
+            → EndsWith Kept (option low (λ i. fill p active levels (i ∷ low)) o)
+        go o (found i g) later = later i g
+        go o (nothing out) later = (kept, inr out)
+
+    pub assign-keeps : Kept [] → EndsWith Kept (assign p active)
+    assign-keeps none = fill-ends (p .tasks) [] (omega arith) none
 
   abbrev pub SomeValid : Type 0
-  SomeValid = (order : List ℕ) × Valid (p .tasks) (p .rules) (λ i above. T (passes p i above)) active order
+  SomeValid = (order : List ℕ) × Valid (p .tasks) (p .rules) (Passes p) active order
 
   -- then all are exactly when a valid order exists, whoever took the levels
   pub ends-decide : Lawful p → (low : List ℕ) → Ends low → (length low ≡ p .tasks) ↔ SomeValid
   ends-decide lawful low ends =
-      (λ long. (low, filled-valid lawful low (ends .0) long), λ s. ⊎-elim (λ long. long) (stuck s) (ends .1))
+      (λ long. (low, filled-valid low (ends .0) long lawful), λ s. ⊎-elim (λ long. long) (stuck s) (ends .1))
     where
       -- with a valid order about, no task may take the next level only where every task has one
       stuck : SomeValid → Stuck p active (unassigned (p .tasks) low) → length low ≡ p .tasks
@@ -314,7 +226,7 @@ module _ (p : Problem) (active : ℕ → Bool) where
           (eq-zero-or-pos (count (p .tasks) (unassigned (p .tasks) low)))
 
   assign-ends : Ends (assign p active)
-  assign-ends = fill-ends (p .tasks) [] (omega arith) empty
+  assign-ends = assign-keeps (Filled p active) (λ i low g f. level i low (g .below) (g .passes) f) empty
 
   pub assign-filled : Filled p active (assign p active)
   assign-filled = assign-ends .0
@@ -336,10 +248,8 @@ valid-fewer fewer v = record { isOrder = v .isOrder; keeps = λ k h on. v .keeps
 module _ (p : Problem) (less more : ℕ → Bool) (fewer : Subset (length (p .rules)) less more) where
   may-fewer : (left : ℕ → Bool) (i : ℕ) → T (mayTake p more left i) → T (mayTake p less left i)
   may-fewer left i t =
-      let r = may-ready p more left i t in
-      may-of p less left i
-      (ready-of p less left i (ready-left p more left i r) (λ k h on. ready-below p more left i r k h (fewer k h on)))
-      (may-pass p more left i t)
+      let m = may-takes p more left i t in
+      takes-may p less left i (record { waits = m .waits; below = λ k h on. m .below k h (fewer k h on); meets = m .meets })
 
   -- the same levels may be filled
   pub filled-fewer : (low : List ℕ) → Filled p more low → Filled p less low
@@ -358,25 +268,25 @@ pub stuck-without : (p : Problem) (active left : ℕ → Bool) (k : ℕ)
     → (T (left (ruleAt (p .rules) k .higher .0)) → T (left (ruleAt (p .rules) k .lower .0)) → ⊥)
     → Stuck p active left → Stuck p (without active k) left
 stuck-without p active left k apart stuck i h t =
-    let less = without active k in
-    let r = may-ready p less left i t in
-    let here = ready-left p less left i r in
+    let m = may-takes p (without active k) left i t in
     stuck i h
-    (may-of p active left i
-    (ready-of p active left i here
-    (λ j g on e low. ⊎-elim
-    (λ same.
-    let at = eqb→eq k j same in
-    apart (subst (λ (q : ℕ). T (left q)) (sym e ∙ ap (λ (q : ℕ). ruleAt (p .rules) q .higher .0) (sym at)) here)
-    (subst (λ (q : ℕ). T (left (ruleAt (p .rules) q .lower .0))) (sym at) low))
-    (λ other. ready-below p less left i r j g
-    (without-other active k j (λ q. other (subst (λ (m : ℕ). T (eqb k m)) q (eqb-refl k))) on) e low)
-    (decided (eqb k j))))
-    (may-pass p less left i t))
+    (takes-may p active left i
+    (record {
+      waits = m .waits;
+      below = λ j g on e low. ⊎-elim
+          (λ same.
+          let at = eqb→eq k j same in
+          apart (subst (λ (q : ℕ). T (left q)) (sym e ∙ ap (λ (q : ℕ). ruleAt (p .rules) q .higher .0) (sym at)) (m .waits))
+          (subst (λ (q : ℕ). T (left (ruleAt (p .rules) q .lower .0))) (sym at) low))
+          (λ other. m .below j g
+          (without-other active k j (λ q. other (subst (λ (r : ℕ). T (eqb k r)) q (eqb-refl k))) on) e low)
+          (decided (eqb k j));
+      meets = m .meets;
+    }))
 
 -- and whoever may take a level with rules may take it without
 pub may-bare : (p : Problem) (active left : ℕ → Bool) (i : ℕ) → T (mayTake p active left i) → T (mayTake (withoutRules p) noRule left i)
 may-bare p active left i t =
-    may-of (withoutRules p) noRule left i
-    (ready-of (withoutRules p) noRule left i (ready-left p active left i (may-ready p active left i t)) (λ k h. absurd (not-suc-le-zero h)))
-    (may-pass p active left i t)
+    let m = may-takes p active left i t in
+    takes-may (withoutRules p) noRule left i
+    (record { waits = m .waits; below = λ k h. absurd (not-suc-le-zero h); meets = m .meets })

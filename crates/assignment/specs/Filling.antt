@@ -21,7 +21,8 @@ use Rattle.assignment.specs.declared.Choice.{Choice}
 use Rattle.assignment.specs.declared.Choice.the-variants.{Takes, Nobody}
 use Rattle.assignment.specs.declared.Search.{Search}
 use Rattle.assignment.specs.Audsley.{isWithin, Problem, ready, unassigned, mayTake, fill, feasible, level, Stuck}
-use Rattle.assignment.specs.Decision.{Lawful, unassigned-cons, filled-count, filled-fewer, ends-decide, feasible-exactly}
+use Rattle.assignment.specs.Levels.{unassigned-cons}
+use Rattle.assignment.specs.Decision.{Lawful, filled-count, filled-fewer, ends-decide, feasible-exactly}
 use Rattle.assignment.specs.Search.{index, time, candidate, chosen, AnyOf, lowest, Holds, candidates, lowestFree, placed}
 use Rattle.assignment.specs.Search.{Searched, Ended, responses, HoldsLevels, Assigns}
 

@@ -1,7 +1,10 @@
 pub mod Orders
+pub mod Canonical
 pub mod Audsley
 pub mod Search
+pub mod Levels
 pub mod Decision
+pub mod CanonicalLaws
 pub mod Ready
 pub mod Filling
 pub mod Preemptive

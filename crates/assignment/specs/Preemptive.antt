@@ -2,11 +2,11 @@
 use mathlib.Core.Path.{_≡_, refl, sym, subst}
 use mathlib.Core.Bool.{Bool}
 use mathlib.Core.List.{List}
-use mathlib.Core.Logic.{_↔_}
+use mathlib.Core.Logic.{⊎-elim, _↔_}
 use Prim.Native.Nat.{ℕ}
 use native.Mathlib.Nat.{not-suc-le-zero}
 use native.Mathlib.Omega.{arith}
-use lib.Dec.{T}
+use lib.Dec.{T, eqb→eq}
 use lib.ListN.{length}
 use Rattle.sets.specs.Bounded.{Subset}
 use Rattle.taskset.specs.declared.Task.{Task}
@@ -19,8 +19,11 @@ use Rattle.response.specs.Agreement.{response-says}
 use Rattle.response.specs.Demand.{fewer-above}
 use Rattle.assignment.specs.declared.Search.{Search}
 use Rattle.assignment.specs.Orders.{Valid, MeetsDeadline, ValidOrder, SomeOrder}
-use Rattle.assignment.specs.Audsley.{isWithin, passes, feasible, responseAt, problem, bare}
+use Rattle.assignment.specs.Canonical.{CanonicalOrder, GreatestOrder}
+use Rattle.assignment.specs.Audsley.{isWithin, Passes, assign, feasible, responseAt, problem, bare}
+use Rattle.assignment.specs.Levels.{valid-takes, takes-valid}
 use Rattle.assignment.specs.Decision.{Lawful, SomeValid, feasible-exactly, feasible-fewer}
+use Rattle.assignment.specs.CanonicalLaws.{greater-once, canonical-greatest, canonical-other, assign-canonical}
 use Rattle.assignment.specs.Search.{Ended}
 use Rattle.assignment.specs.Filling.{ended-decides}
 
@@ -42,7 +45,7 @@ meets-other change v = record { isOrder = v .isOrder; keeps = v .keeps; meets = 
 
 -- so an order is valid by the one exactly when it is by the other
 pub valid-exactly : (l : Lists) (active : ℕ → Bool) (order : List ℕ)
-    → Valid (length (l .tasks)) (l .rules) (λ i above. T (passes (problem l) i above)) active order ↔ ValidOrder l active order
+    → Valid (length (l .tasks)) (l .rules) (Passes (problem l)) active order ↔ ValidOrder l active order
 valid-exactly l active order =
     (meets-other (λ i above. meets-exactly (l .tasks) i above .0), meets-other (λ i above. meets-exactly (l .tasks) i above .1))
 
@@ -77,6 +80,33 @@ module _ (l : Lists) (sound : Sound l) (active : ℕ → Bool) where
   feasible-order =
       let d = feasible-exactly (problem l) active (lawful l sound) in
       (λ t. some-valid .0 (d .0 t), λ s. d .1 (some-valid .1 s))
+
+  -- the order that it finds is the canonical one
+  pub assigned-canonical : T (feasible (problem l) active) → CanonicalOrder l active (assign (problem l) active)
+  unfolding feasible
+  assigned-canonical t =
+      canonical-other (meets-exactly (l .tasks)) (λ k h. (λ on. on, λ on. on))
+      (assign-canonical (problem l) active (lawful l sound) (eqb→eq (length (assign (problem l) active)) (length (l .tasks)) t))
+
+  -- which is the greatest of the valid ones, and no other order is
+  pub canonical-exactly : (order : List ℕ) → CanonicalOrder l active order ↔ GreatestOrder l active order
+  canonical-exactly order = (is order, found)
+    where
+      is : (o : List ℕ) → CanonicalOrder l active o → GreatestOrder l active o
+      is o c =
+          record {
+            valid = takes-valid (c .isOrder) (λ k h. sound .indices k h .higher) (c .takes);
+            greatest = λ other v. canonical-greatest c (v .isOrder) (valid-takes (v .isOrder) v);
+          }
+
+      found : GreatestOrder l active order → CanonicalOrder l active order
+      found g =
+          let c = assigned-canonical (feasible-order .1 (order, g .valid)) in
+          let first = is (assign (problem l) active) c in
+          ⊎-elim (λ e. subst (CanonicalOrder l active) e c)
+          (λ more.
+          ⊎-elim (λ e. subst (CanonicalOrder l active) (sym e) c) (λ less. absurd (greater-once more less)) (first .greatest order (g .valid)))
+          (g .greatest (assign (problem l) active) (first .valid))
 
   -- so does a search that has ended: every level is filled exactly when there is one
   pub ended-order : (r : Search) → Ended (problem l) active r → (r .free ≡ 0) ↔ SomeOrder l active

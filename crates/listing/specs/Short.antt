@@ -25,12 +25,13 @@ use Rattle.verdict.specs.declared.Solved.{Solved}
 use Rattle.verdict.specs.declared.Verdict.{Verdict}
 use Rattle.verdict.specs.Verdict.{deciding, solving}
 use Rattle.verdict.specs.Correct.{orderGiven, Correct}
-use Rattle.verdict.specs.Solving.{deciding-13, solving-14}
+use Rattle.verdict.specs.Solving.{solving-14}
 use Rattle.verdict.specs.Explained.{deciding-correct}
 use Rattle.listing.specs.Listing.{levelLine, ruleLine, linesBelow, linesFor, word, listingWith, listing}
 use Rattle.listing.specs.Listing.{Outcome, refused, shown, outcome, maxListing}
 use Rattle.listing.specs.NumbersLaws.{lines-few}
-use Rattle.listing.specs.Showing.{outcome-shown, solving-verdict}
+use Rattle.listing.specs.Showing.{solving-verdict}
+use Rattle.listing.specs.GivenLaws.{Kind, refusal, verdict, decided-kind}
 
 -- ---- lines
 
@@ -138,15 +139,12 @@ not-shown o k bytes e f = let z : _≡_ {A = ℕ} 0 1 = cc in omega arith
 
 -- so on lists that adding has taken, and of a set
 pub deciding-short : (l : Lists) → Sound l → (bytes : List ℕ) → outcome l (deciding l) ≡ shown bytes → length bytes ≤ maxListing
-deciding-short l sound bytes e = ⊎-elim none some (lt-or-le (length (l .tasks)) 1)
+deciding-short l sound bytes = go (outcome l (deciding l)) (decided-kind l sound)
   where
-    none : length (l .tasks) < 1 → length bytes ≤ maxListing
-    none h = absurd (not-shown _ 13 bytes (ap (outcome l) (sym (deciding-13 l (omega arith)))) e)
-
-    some : 1 ≤ length (l .tasks) → length bytes ≤ maxListing
-    some h =
-        let ok = deciding-correct l sound h in
-        let is-listing = outcome-shown l (deciding l) (ok .one) in
+    go : (o : Outcome) → Kind l o → o ≡ shown bytes → length bytes ≤ maxListing
+    go o (refusal k some few) e = absurd (not-shown o k bytes refl e)
+    go o (verdict some) e =
+        let ok = deciding-correct l sound some in
         let same : bytes ≡ listing l (deciding l) = cc in
         rw same (listing-few l sound (deciding l) ok (ok .one))
 

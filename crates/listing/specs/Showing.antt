@@ -93,7 +93,7 @@ solving-verdict s made = ap (λ (r : Solved). r .verdict) (sym (solving-made s m
 
 -- what listing it answers and leaves in a buffer
 module _ (s : TaskSet) (buffer : List ℕ) where
-  abbrev ListsAs : Shown → List ℕ → Type 0
+  abbrev pub ListsAs : Shown → List ℕ → Type 0
   ListsAs r xs =
       let o = fitted (length buffer) (outcome (lists s) (solving s .verdict)) in
       (record { shown = r; set = s } ≡ listed s o) × (xs ≡ bufferAfter o buffer)

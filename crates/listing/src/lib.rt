@@ -10,6 +10,7 @@ ghost use Rattle.taskset.specs.Adding.{lists};
 ghost use Rattle.taskset.specs.Words.{tasksIn, rulesIn, listsIn};
 ghost use Rattle.verdict.specs.Verdict.{solving};
 ghost use Rattle.listing.specs.Listing.{ruleLine, linesBelow, listingWith, outcome, shown, fitted, shownAs, listed, bufferAfter};
+ghost use Rattle.listing.specs.Given.{Gives};
 ghost use Rattle.listing.specs.Numbers.{width, maxNumbers, HasLines, withNumbers, levelLines};
 use lines::line_size;
 use lines::lines_size;
@@ -163,6 +164,8 @@ pub fn list(set: TaskSet, out: &mut [u8]) -> Listed
     ensures { λ r. ⌜ r ≡ listed set (fitted (length (now (out .entry))) (outcome (lists set) (solving set .verdict))) ⌝ }
     ensures bytes { λ r. ⌜ now (out .exit) ≡ bufferAfter (fitted (length (now (out .entry)))
         (outcome (lists set) (solving set .verdict))) (now (out .entry)) ⌝ }
+    ensures gives { λ r. ⌜ (r .shown .refusal ≡ 0
+        → Gives (lists set) (solving set .verdict) (r .shown .count) (now (out .entry)) (now (out .exit))) ⌝ }
 {
     if !set.is_made() {
         return Listed {

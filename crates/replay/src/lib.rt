@@ -3,8 +3,10 @@
 ghost use mathlib.Core.Path.{_≡_};
 ghost use Prim.Native.Nat.{_≤_};
 ghost use lib.ListN.{length};
+ghost use Rattle.taskset.specs.Model.{noLists, heard};
 ghost use Rattle.taskset.specs.Adding.{freshSet, add, run};
 ghost use Rattle.verdict.specs.Verdict.{solving};
+ghost use Rattle.verdict.specs.OneOrder.{OneOrder};
 ghost use Rattle.replay.specs.Calls.{callSize, callIn, callsIn};
 ghost use Rattle.replay.specs.Demand3.{Demand3};
 use taskset::TASK_WORDS;
@@ -32,6 +34,7 @@ fn make(set: TaskSet, call: &[u64]) -> TaskSet
 pub fn replay(calls: &[u64]) -> Solved
     ensures { λ r. ⌜ r ≡ solving (run freshSet (callsIn (now (calls .entry)))) ⌝ }
     ensures demand3 { λ r. ⌜ Demand3 (callsIn (now (calls .entry))) (r .verdict) ⌝ }
+    ensures canonical { λ r. ⌜ OneOrder (heard noLists (callsIn (now (calls .entry)))) (r .verdict) ⌝ }
 {
     let n = calls.len() / CALL_WORDS;
     let mut set = TaskSet::fresh();

@@ -53,6 +53,21 @@ rank-getD xs distinct i h =
     ⊎-elim (λ e. e) (λ l. absurd (distinct (rank xs (getD xs i 0)) i l h (getD-rank xs (getD xs i 0) (getD-member xs i h))))
     (eq-or-lt-of-le (rank-le xs i h))
 
+-- one number more, in front
+pub distinct-cons : (x : ℕ) (xs : List ℕ) → (Member xs x → ⊥) → Distinct xs → Distinct (x ∷ xs)
+distinct-cons x xs out tail zero zero h k = absurd (not-suc-le-zero h)
+distinct-cons x xs out tail zero (suc b) h k = λ e.
+    let m = getD-member xs b (le-of-suc-le-suc k) in
+    out (rw (← e) at m)
+distinct-cons x xs out tail (suc a) zero h k = absurd (not-suc-le-zero h)
+distinct-cons x xs out tail (suc a) (suc b) h k = tail a b (le-of-suc-le-suc h) (le-of-suc-le-suc k)
+
+pub distinct-head : (x : ℕ) (xs : List ℕ) → Distinct (x ∷ xs) → Member xs x → ⊥
+distinct-head x xs distinct m = distinct 0 (suc (rank xs x)) (omega arith) (suc-le-suc m) (sym (getD-rank xs x m))
+
+pub distinct-tail : (x : ℕ) (xs : List ℕ) → Distinct (x ∷ xs) → Distinct xs
+distinct-tail x xs distinct i j l h = distinct (suc i) (suc j) (suc-le-suc l) (suc-le-suc h)
+
 -- what stands in the list from index k on has a rank of at least k, and the other way round
 pub drop-rank : (xs : List ℕ) → Distinct xs → (k x : ℕ) → Member (drop k xs) x → k ≤ rank xs x
 drop-rank xs distinct k x m =

@@ -35,7 +35,7 @@ use Rattle.verdict.specs.Verdict.{ordered, cored, responsesIn, verdictBy
 use Rattle.verdict.specs.Correct.{orderGiven, coreGiven, Correct, Explains}
 use Rattle.verdict.specs.Solving.{assign-valid, deciding-on, solving-made}
 
-order-not-core : Order ≡ Core → ⊥
+pub order-not-core : Order ≡ Core → ⊥
 order-not-core e = let z : _≡_ {A = ℕ} 0 1 = cc in omega arith
 
 unindex : (xs : List ℕ) → map (λ (t : TaskIndex). t .0) (map index xs) ≡ xs
@@ -73,7 +73,7 @@ module _ (l : Lists) (sound : Sound l) where
     unfolding feasible
     whole = eqb→eq (length order) n yes
 
-    handed : orderGiven l answer ≡ order
+    pub handed : orderGiven l answer ≡ order
     handed =
         let long : n ≡ length (map index order) = sym whole ∙ sym (length-map order index) in
         ap (λ (k : ℕ). map (λ (t : TaskIndex). t .0) (take k (pad maxTasks (index 0) (map index order)))) long

@@ -1,8 +1,10 @@
 pub mod Core
 pub mod Verdict
 pub mod Correct
+pub mod OneOrder
 pub mod Cut
 pub mod CoreLaws
 pub mod Cutting
 pub mod Solving
 pub mod Explained
+pub mod OneOrderLaws

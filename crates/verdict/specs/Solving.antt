@@ -18,7 +18,8 @@ use Rattle.taskset.specs.Adding.{isMade, lists}
 use Rattle.assignment.specs.declared.Search.{Search}
 use Rattle.assignment.specs.Orders.{hp, ValidOrder}
 use Rattle.assignment.specs.Audsley.{unassigned, assign, feasible, responseAt, problem}
-use Rattle.assignment.specs.Decision.{filled-count, assign-filled, before-unassigned, filled-valid}
+use Rattle.assignment.specs.Levels.{before-unassigned}
+use Rattle.assignment.specs.Decision.{filled-count, assign-filled, filled-valid}
 use Rattle.assignment.specs.Preemptive.{lawful, valid-exactly}
 use Rattle.assignment.specs.Search.{index, time, responses, lowest, HoldsLevels}
 use Rattle.verdict.specs.declared.Answer.the-variants.{Order, Core}
@@ -58,6 +59,10 @@ module _ (l : Lists) (sound : Sound l) (active : ℕ → Bool) where
   abbrev order : List ℕ
   order = assign (problem l) active
 
+  pub assign-valid : length order ≡ n → ValidOrder l active order
+  assign-valid whole =
+      valid-exactly l active order .0 (filled-valid (problem l) active order (assign-filled (problem l) active) whole (lawful l sound))
+
   -- the response at level k is that of the task there, with those that have no level yet above it
   response-at : (low : List ℕ) (k : ℕ) → k < length low
       → getD (responses (problem l) low) k 0 ≡ time (responseAt (l .tasks) (getD low k 0) (unassigned n (drop k low)))
@@ -73,12 +78,8 @@ module _ (l : Lists) (sound : Sound l) (active : ℕ → Bool) where
       let here : k < length order = omega (arith, h, long) in
       response-at order k here
       ∙ ap (λ (f : ℕ → Bool). time (responseAt (l .tasks) (getD order k 0) f))
-      (sym (before-unassigned (problem l) active (lawful l sound) order (assign-filled (problem l) active) whole k here))
+      (sym (before-unassigned (assign-valid whole .isOrder) k here))
       ∙ sym (map-at (λ i. time (responseAt (l .tasks) i (hp order i))) order k 0 0 here))
-
-  pub assign-valid : length order ≡ n → ValidOrder l active order
-  assign-valid whole =
-      valid-exactly l active order .0 (filled-valid (problem l) active (lawful l sound) order (assign-filled (problem l) active) whole)
 
   module _ (s : Search) (holds : HoldsLevels (problem l) order s) (every : active ≡ first (length (l .rules))) where
     abbrev test : (ℕ → Bool) → Bool

@@ -7,12 +7,14 @@ ghost use Rattle.sets.specs.Bounded.{without};
 ghost use Rattle.sets.specs.Marks.{first, marked};
 ghost use Rattle.taskset.specs.Refusals.{maxRules};
 ghost use Rattle.taskset.specs.Model.{Sound};
+ghost use Rattle.taskset.specs.Adding.{lists};
 ghost use Rattle.taskset.specs.Words.{tasksIn, rulesIn, listsIn};
 ghost use Rattle.assignment.specs.Audsley.{feasible, problem};
 ghost use Rattle.assignment.specs.Search.{Ended};
 ghost use Rattle.verdict.specs.Core.{tried, coreOf};
 ghost use Rattle.verdict.specs.Verdict.{refused, deciding, solving};
 ghost use Rattle.verdict.specs.Correct.{Correct, Explains};
+ghost use Rattle.verdict.specs.OneOrder.{OneOrder};
 ghost use Rattle.verdict.specs.Cut.{Cutting};
 use assignment::Hints;
 use assignment::Search;
@@ -187,6 +189,7 @@ pub fn decide(rows: &[u64], rules: &[u64]) -> Verdict
     requires { ⌜ Sound (listsIn (now rows) (now rules)) ⌝ }
     ensures { λ r. ⌜ r ≡ deciding (listsIn (now (rows .entry)) (now (rules .entry))) ⌝ }
     ensures says { λ r. ⌜ (1 ≤ length (tasksIn (now (rows .entry))) → Correct (listsIn (now (rows .entry)) (now (rules .entry))) r) ⌝ }
+    ensures canonical { λ r. ⌜ OneOrder (listsIn (now (rows .entry)) (now (rules .entry))) r ⌝ }
 {
     if rows.len() < TASK_WORDS {
         return refused(13);
@@ -216,6 +219,7 @@ pub fn decide(rows: &[u64], rules: &[u64]) -> Verdict
 pub fn solve(set: TaskSet) -> Solved
     ensures { λ r. ⌜ r ≡ solving set ⌝ }
     ensures says { λ r. ⌜ Explains set r ⌝ }
+    ensures canonical { λ r. ⌜ OneOrder (lists set) (r .verdict) ⌝ }
 {
     if !set.is_made() {
         return Solved {

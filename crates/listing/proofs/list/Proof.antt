@@ -13,11 +13,15 @@ use Rattle.taskset.specs.declared.TaskSet.{TaskSet}
 use Rattle.taskset.specs.Refusals.{maxTasks, maxRules}
 use Rattle.taskset.specs.Model.{Lists, Sound}
 use Rattle.taskset.specs.Adding.{isMade}
-use Rattle.taskset.specs.Passing.{Passed, passed, passed-few}
+use Rattle.taskset.specs.Passing.{Sized, Passed, passed, passed-few}
 use Rattle.taskset.specs.Words.{taskSize, ruleSize, listsIn}
 use Rattle.listing.specs.Showing.{lists-14, lists-made}
+use Rattle.listing.specs.GivenLaws.{list-gives}
 use Rattle.listing.proofs.list.Statement.{statement}
 use Rattle.listing.proofs.list.Tie as tie
+
+sizes : (s : tie.Start) → Sized (s .args .set)
+sizes s = sized (s .args .set) (s .good .0)
 
 -- where the check passed
 abbrev start : tie.After-is-made → tie.Start
@@ -29,7 +33,7 @@ made c = sym (c .before .is-made .ensures .0) ∙ not-false _ (c .if1 .left)
 pass : (c : tie.Else1) → Passed (start (c .before) .args .set)
 pass c =
     let s = start (c .before) in
-    passed (s .args .set) (sized (s .args .set) (s .good .0)) (made c)
+    passed (s .args .set) (sizes s) (made c)
 
 few : (c : tie.Else1) → let set = start (c .before) .args .set in (set .ntasks ≤ maxTasks) × (set .nrules ≤ maxRules)
 few c = passed-few (start (c .before) .args .set) (pass c)
@@ -63,7 +67,8 @@ is-made-requires c κs = search needs
 returns : tie.Need-returns
 returns c =
     let s = start (c .before) in
-    lists-14 (s .args .set) (now (s .args .out)) (sym (c .before .is-made .ensures .0) ∙ not-true _ (c .if1 .taken))
+    list-gives (s .args .set) (sizes s) (now (s .args .out)) _ _
+    (lists-14 (s .args .set) (now (s .args .out)) (sym (c .before .is-made .ensures .0) ∙ not-true _ (c .if1 .taken)))
 
 slice-aggregate-write-words : tie.Need-slice-aggregate-write-words
 slice-aggregate-write-words c = search needs
@@ -109,7 +114,8 @@ returns-2 c =
     let d = put .before .before in
     let w = decided d in
     let s = start (checked w .before) in
-    lists-made (set w) (now (s .args .out)) (made (checked w)) (w .write-words .ensures) (d .decide .ensures .0) _ _ (put .show .ensures)
+    list-gives (set w) (sizes s) (now (s .args .out)) _ _
+    (lists-made (set w) (now (s .args .out)) (made (checked w)) (w .write-words .ensures) (d .decide .ensures .0) _ _ (put .show .ensures))
 
 pub list-spec : {M : Type 1} → statement M
 list-spec =

@@ -4,12 +4,14 @@ use Prim.Native.Nat.{_+_, _-_, _*_, _≤_}
 use native.Mathlib.Omega.{arith}
 use borrow.Author.Needs.{needs}
 use lib.ListN.{length, take}
+use Rattle.taskset.specs.Model.{noLists, heard}
 use Rattle.taskset.specs.Adding.{freshSet, run}
 use Rattle.verdict.specs.declared.Solved.{Solved}
 use Rattle.verdict.specs.Verdict.{solving}
+use Rattle.verdict.specs.OneOrder.{OneOrder}
 use Rattle.replay.specs.Calls.{callSize, callsIn}
 use Rattle.replay.specs.Demand3.{Demand3}
-use Rattle.replay.specs.Theorem.{demand-3}
+use Rattle.replay.specs.Theorem.{demand-3, one-order}
 use Rattle.replay.specs.Replaying.{part-inside, part-long, replay-turn, replay-end}
 use Rattle.replay.proofs.replay.Statement.{statement}
 use Rattle.replay.proofs.replay.Tie as tie
@@ -74,7 +76,13 @@ returns c =
     let at = c .before .before in
     let words = at .before .before .before .args .calls .now in
     let end = c .solve .ensures .0 ∙ ap solving (replay-end words (at .loop .i) _ (omega arith) (at .loop .inv .1)) in
-    (end, subst (λ (r : Solved). Demand3 (callsIn words) (r .verdict)) (sym end) (demand-3 (callsIn words)))
+    let calls = callsIn words in (
+      end,
+      (
+        subst (λ (r : Solved). Demand3 calls (r .verdict)) (sym end) (demand-3 calls),
+        subst (λ (r : Solved). OneOrder (heard noLists calls) (r .verdict)) (sym end) (one-order calls),
+      ),
+    )
 
 pub replay-spec : {M : Type 1} → statement M
 replay-spec =

@@ -14,16 +14,24 @@ use Rattle.verdict.specs.Verdict.{deciding}
 use Rattle.verdict.specs.Correct.{Correct}
 use Rattle.verdict.specs.Solving.{deciding-13, deciding-on, gives-order, gives-core}
 use Rattle.verdict.specs.Explained.{deciding-correct}
+use Rattle.verdict.specs.OneOrder.{OneOrder}
+use Rattle.verdict.specs.OneOrderLaws.{deciding-one}
 use Rattle.verdict.proofs.decide.Statement.{statement}
 use Rattle.verdict.proofs.decide.Tie as tie
 
 abbrev given : tie.Start → Lists
 given s = listsIn (s .args .rows .now) (s .args .rules .now)
 
--- what is decided is correct
+-- what is decided is correct, and one order
 correct : (s : tie.Start) (r : Verdict) → r ≡ deciding (given s)
-    → (r ≡ deciding (given s)) × (1 ≤ length (given s .tasks) → Correct (given s) r)
-correct s r e = (e, λ some. subst (Correct (given s)) (sym e) (deciding-correct (given s) (s .pre) some))
+    → (r ≡ deciding (given s)) × ((1 ≤ length (given s .tasks) → Correct (given s) r) × OneOrder (given s) r)
+correct s r e = (
+  e,
+  (
+    λ some. subst (Correct (given s)) (sym e) (deciding-correct (given s) (s .pre) some),
+    subst (OneOrder (given s)) (sym e) (deciding-one (given s) (s .pre)),
+  ),
+)
 
 -- there is a task, and every rule is active
 abbrev start : tie.Else1 → tie.Start

@@ -9,7 +9,7 @@ use lib.ListN.{length}
 use lib.Seq.{length-take-le}
 use Rattle.taskset.specs.Refusals.{maxTasks, maxRules}
 use Rattle.taskset.specs.Model.{Sound}
-use Rattle.taskset.specs.Adding.{isMade}
+use Rattle.taskset.specs.Adding.{isMade, lists}
 use Rattle.taskset.specs.Passing.{Sized, passed, passed-few}
 use Rattle.taskset.specs.Words.{taskSize, ruleSize}
 use Rattle.taskset.proofs.Sizes.{sized as sizes}
@@ -19,14 +19,19 @@ use Rattle.verdict.specs.Verdict.{deciding, solving}
 use Rattle.verdict.specs.Correct.{Explains}
 use Rattle.verdict.specs.Solving.{solving-14, solving-made}
 use Rattle.verdict.specs.Explained.{solving-explains}
+use Rattle.verdict.specs.OneOrder.{OneOrder}
+use Rattle.verdict.specs.OneOrderLaws.{solving-one}
 use Rattle.verdict.proofs.solve.Statement.{statement}
 use Rattle.verdict.proofs.solve.Tie as tie
 
 sized : (s : tie.Start) → Sized (s .args .set)
 sized s = sizes (s .args .set) (s .good .0)
 
-explained : (s : tie.Start) (r : Solved) → r ≡ solving (s .args .set) → (r ≡ solving (s .args .set)) × Explains (s .args .set) r
-explained s r e = (e, solving-explains (s .args .set) (sized s) r e)
+explained : (s : tie.Start) (r : Solved) → let set = s .args .set in
+    r ≡ solving set → (r ≡ solving set) × (Explains set r × OneOrder (lists set) (r .verdict))
+explained s r e =
+    let set = s .args .set in
+    (e, (solving-explains set (sized s) r e, solving-one set (sized s) r e))
 
 -- where the check passed
 abbrev start : tie.Else1 → tie.Start

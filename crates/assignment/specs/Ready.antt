@@ -2,8 +2,7 @@
 use mathlib.Core.Path.{_≡_, refl, sym, ap, _∙_, fun-ext}
 use mathlib.Core.Bool.{Bool, true, false, _&&_, not}
 use mathlib.Core.List.{List}
-use Prim.Native.Nat.{ℕ, suc, _+_, _-_, _≤_, _<_}
-use native.Mathlib.Omega.{arith}
+use Prim.Native.Nat.{ℕ, suc, _+_, _<_}
 use lib.Dec.{eqb}
 use lib.ListN.{length, set}
 use borrow.Author.Tests.{eqb-true}
@@ -100,20 +99,17 @@ module _ (n : ℕ) (candidates : ℕ → Response) where
   abbrev pub within : ℕ → Bool
   within i = isWithin (candidates i)
 
-  pub chosen-takes : (i r : ℕ) → 1 ≤ i → greatest i within ≡ greatest n within → candidates (i - 1) ≡ Within r
-      → Takes (index (i - 1)) r ≡ chosen n candidates
-  unfolding chosen
-  chosen-takes i r h e f =
-      let next : suc (i - 1) ≡ i = omega arith in
-      ap (λ (a : Response). Takes (index (i - 1)) (time a)) (sym f)
-      ∙ ap (option Nobody (λ j. Takes (index j) (time (candidates j))))
-      (sym (greatest-at (i - 1) within (ap isWithin f)) ∙ ap (λ (m : ℕ). greatest m within) next ∙ e)
+  -- the next one down is within its deadline, or late
+  module _ (i k : ℕ) (next : suc i ≡ k) (e : greatest k within ≡ greatest n within) where
+    pub chosen-takes : (r : ℕ) → candidates i ≡ Within r → Takes (index i) r ≡ chosen n candidates
+    unfolding chosen
+    chosen-takes r f =
+        ap (λ (a : Response). Takes (index i) (time a)) (sym f)
+        ∙ ap (option Nobody (λ j. Takes (index j) (time (candidates j))))
+        (sym (greatest-at i within (ap isWithin f)) ∙ ap (λ (m : ℕ). greatest m within) next ∙ e)
 
-  pub chosen-next : (i : ℕ) → 1 ≤ i → greatest i within ≡ greatest n within → candidates (i - 1) ≡ Late
-      → greatest (i - 1) within ≡ greatest n within
-  chosen-next i h e f =
-      let next : suc (i - 1) ≡ i = omega arith in
-      sym (greatest-under (i - 1) within (ap isWithin f)) ∙ ap (λ (m : ℕ). greatest m within) next ∙ e
+    pub chosen-next : candidates i ≡ Late → greatest i within ≡ greatest n within
+    chosen-next f = sym (greatest-under i within (ap isWithin f)) ∙ ap (λ (m : ℕ). greatest m within) next ∙ e
 
   pub chosen-none : (i : ℕ) → i ≡ 0 → greatest i within ≡ greatest n within → Nobody ≡ chosen n candidates
   unfolding chosen greatest

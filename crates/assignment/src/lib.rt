@@ -99,9 +99,10 @@ fn choose(rows: &[u64], ready: [bool; MAX_TASKS], left: [bool; MAX_TASKS]) -> Ch
         (candidate (responseAt (tasksIn (now (rows .entry)))) (marked ready) (marked left)) ⌝ }
 {
     let n = rows.len() / TASK_WORDS;
-    let mut i = n;
-    while 0 < i {
-        i -= 1;
+    let mut tried = 0;
+    while tried < n {
+        tried += 1;
+        let i = n - tried;
         if ready[i] {
             let task = TaskIndex(i);
             if let Response::Within(response) = level_response(rows, left, task) {
@@ -162,6 +163,55 @@ fn choose_any(
         }
     }
     choose_last(rows, ready, other, left)
+}
+
+// A task meets its deadline with the others that are left above it.
+fn passes(rows: &[u64], left: [bool; MAX_TASKS], task: TaskIndex) -> bool
+    requires { ⌜ SoundTasks (tasksIn (now rows)) ⌝ }
+    requires { ⌜ task .0 < length (tasksIn (now rows)) ⌝ }
+    ensures { λ r. ⌜ r ≡ passes (bare (tasksIn (now (rows .entry)))) (task .0) (without (marked left) (task .0)) ⌝ }
+{
+    if let Response::Within(_) = level_response(rows, left, task) {
+        return true;
+    }
+    false
+}
+
+// The tasks left that meet their deadline with the others that are left above them.
+fn passing(rows: &[u64], left: [bool; MAX_TASKS]) -> [bool; MAX_TASKS]
+    requires { ⌜ SoundTasks (tasksIn (now rows)) ⌝ }
+    ensures { λ r. ⌜ Known (bare (tasksIn (now (rows .entry)))) (marked left) (marked r) ⌝ }
+{
+    let n = rows.len() / TASK_WORDS;
+    let mut known = [false; MAX_TASKS];
+    let mut j = 0;
+    while j < n {
+        if left[j] {
+            known[j] = passes(rows, left, TaskIndex(j));
+        }
+        j += 1;
+    }
+    known
+}
+
+// Hints for a search that goes on from here, or none.
+pub fn hints_at(rows: &[u64], search: Search, given: bool) -> Hints
+    requires { ⌜ SoundTasks (tasksIn (now rows)) ⌝ }
+    requires { ⌜ Searched (bare (tasksIn (now rows))) noRule search ⌝ }
+    ensures { λ r. ⌜ r .given ≡ given ⌝ }
+    ensures helps { λ r. ⌜ Helps (bare (tasksIn (now (rows .entry)))) (marked (search .left)) r ⌝ }
+{
+    let left = search.left;
+    let known = if given {
+        passing(rows, left)
+    } else {
+        [false; MAX_TASKS]
+    };
+    Hints {
+        given,
+        known,
+        other: search,
+    }
 }
 
 // The lowest of the levels that are not filled yet.
@@ -231,39 +281,6 @@ pub fn trial(rows: &[u64], rules: &[u64], active: [bool; MAX_RULES]) -> Search
         free: n,
         left,
     };
-    let hints = Hints {
-        given: false,
-        known: [false; MAX_TASKS],
-        other: start,
-    };
+    let hints = hints_at(rows, start, false);
     fill_levels(rows, rules, active, hints, start)
-}
-
-// A task meets its deadline with the others that are left above it.
-fn passes(rows: &[u64], left: [bool; MAX_TASKS], task: TaskIndex) -> bool
-    requires { ⌜ SoundTasks (tasksIn (now rows)) ⌝ }
-    requires { ⌜ task .0 < length (tasksIn (now rows)) ⌝ }
-    ensures { λ r. ⌜ r ≡ passes (bare (tasksIn (now (rows .entry)))) (task .0) (without (marked left) (task .0)) ⌝ }
-{
-    if let Response::Within(_) = level_response(rows, left, task) {
-        return true;
-    }
-    false
-}
-
-// The tasks left that meet their deadline with the others that are left above them.
-pub fn passing(rows: &[u64], left: [bool; MAX_TASKS]) -> [bool; MAX_TASKS]
-    requires { ⌜ SoundTasks (tasksIn (now rows)) ⌝ }
-    ensures { λ r. ⌜ Known (bare (tasksIn (now (rows .entry)))) (marked left) (marked r) ⌝ }
-{
-    let n = rows.len() / TASK_WORDS;
-    let mut known = [false; MAX_TASKS];
-    let mut j = 0;
-    while j < n {
-        if left[j] {
-            known[j] = passes(rows, left, TaskIndex(j));
-        }
-        j += 1;
-    }
-    known
 }

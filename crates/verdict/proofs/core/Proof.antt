@@ -19,8 +19,11 @@ abbrev given : tie.Start → Problem
 given s = problem (listsIn (s .args .rows .now) (s .args .rules .now))
 
 -- where the search without rules began
-abbrev start : tie.After-passing → tie.Start
-start c = let test = c .before .before in test .before .before .before
+abbrev start : tie.After-hints-at → tie.Start
+start c = c .before .before .before .before
+
+marks-long : (s : tie.Start) → length (s .args .active) ≡ maxRules
+marks-long s = search needs
 
 -- no rules: nothing is tried
 returns : tie.Need-returns
@@ -29,31 +32,28 @@ returns c =
     let none : 0 ≡ length (rulesIn (s .args .rules .now)) = omega (arith, rules-length (s .args .rules .now)) in
     marked-first-none maxRules ∙ stay-none (feasible (given s)) 0 ∙ ap (coreOf (feasible (given s))) none
 
-passing-requires : tie.Need-passing-requires
-passing-requires c κs = let s = c .before .before .before .before in s .pre .0 .tasks
+hints-at-requires : tie.Need-hints-at-requires
+hints-at-requires c κs =
+    let s = c .before .before .before in
+    (s .pre .0 .tasks, searched-bare (given s) _ _ (s .pre .1 .1 .0 .searched))
 
 fill-levels-requires : tie.Need-fill-levels-requires
 fill-levels-requires c κs =
-    let s = start c in
-    let stuck = s .pre .1 .1 .0 .searched in (
-      s .pre .0,
-      (
-        none-searched (given s) (lawful _ (s .pre .0)) maxRules _ _ stuck,
-        record { known = λ on. c .passing .ensures; other = λ on. searched-bare (given s) _ _ stuck },
-      ),
-    )
+    let s = start (c .before) in
+    (s .pre .0, (none-searched (given s) (lawful _ (s .pre .0)) maxRules _ _ (s .pre .1 .1 .0 .searched), c .before .hints-at .ensures .1))
 
 cut-down-requires : tie.Need-cut-down-requires
 cut-down-requires c κs =
     let bare = c .before .before in
-    let s = start (bare .before) in (
+    let hinted = bare .before .before in
+    let s = start hinted in (
       s .pre .0,
       (
         record {
-          long = search needs;
+          long = marks-long s;
           stuck = s .pre .1 .1 .0;
           unfilled = s .pre .1 .1 .1;
-          known = bare .before .passing .ensures;
+          known = hinted .hints-at .ensures .1 .known (hinted .hints-at .ensures .0);
           other = searched-bare (given s) _ _ (bare .fill-levels .ensures .0 .searched);
         },
         s .pre .1 .0,
@@ -67,10 +67,10 @@ returns-2 c = c .cut-down .ensures
 returns-3 : tie.Need-returns-3
 returns-3 c =
     let bare = c .before .before in
-    let s = start (bare .before) in
+    let s = start (bare .before .before) in
     none-stay (given s) (lawful _ (s .pre .0)) maxRules _ (bare .fill-levels .ensures .0) (c .if2 .left)
 
 pub core-spec : {M : Type 1} → statement M
 core-spec =
     tie.close
-    (tie.spec returns passing-requires fill-levels-requires cut-down-requires returns-2 returns-3)
+    (tie.spec returns hints-at-requires fill-levels-requires cut-down-requires returns-2 returns-3)

@@ -1,7 +1,7 @@
 -- A search that goes on, with hints or without: what holds of it level after level, and what it says when it ends. Over any test.
 -- Assumes nothing.
 use mathlib.Core.Path.{_≡_, sym, subst, _∙_}
-use mathlib.Core.Bool.{Bool, false, true≢false}
+use mathlib.Core.Bool.{Bool, false}
 use mathlib.Core.List.{List, []}
 use mathlib.Core.Logic.{inl, inr}
 use Prim.Native.Nat.{ℕ, _-_, _≤_, _<_}
@@ -114,7 +114,3 @@ sound-indexed l sound =
           let b = sound .indices k h in
           record { apart = b .apart; higher = omega (arith, b .higher, sound .tasks .few); lower = omega (arith, b .lower, sound .tasks .few) };
     }
-
--- hints that are not given say nothing
-pub no-hints : (p : Problem) (left : ℕ → Bool) (h : Hints) → h .given ≡ false → Helps p left h
-no-hints p left h off = record { known = λ on. absurd (true≢false (sym on ∙ off)); other = λ on. absurd (true≢false (sym on ∙ off)) }

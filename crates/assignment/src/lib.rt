@@ -177,13 +177,16 @@ fn passes(rows: &[u64], left: [bool; MAX_TASKS], task: TaskIndex) -> bool
     false
 }
 
-// The tasks left that meet their deadline with the others that are left above them.
-fn passing(rows: &[u64], left: [bool; MAX_TASKS]) -> [bool; MAX_TASKS]
+// For hints: the tasks left that meet their deadline with the others that are left above them. None where no hints are given.
+pub fn passing(rows: &[u64], left: [bool; MAX_TASKS], given: bool) -> [bool; MAX_TASKS]
     requires { ⌜ SoundTasks (tasksIn (now rows)) ⌝ }
     ensures { λ r. ⌜ Known (bare (tasksIn (now (rows .entry)))) (marked left) (marked r) ⌝ }
 {
-    let n = rows.len() / TASK_WORDS;
     let mut known = [false; MAX_TASKS];
+    if !given {
+        return known;
+    }
+    let n = rows.len() / TASK_WORDS;
     let mut j = 0;
     while j < n {
         if left[j] {
@@ -192,26 +195,6 @@ fn passing(rows: &[u64], left: [bool; MAX_TASKS]) -> [bool; MAX_TASKS]
         j += 1;
     }
     known
-}
-
-// Hints for a search that goes on from here, or none.
-pub fn hints_at(rows: &[u64], search: Search, given: bool) -> Hints
-    requires { ⌜ SoundTasks (tasksIn (now rows)) ⌝ }
-    requires { ⌜ Searched (bare (tasksIn (now rows))) noRule search ⌝ }
-    ensures { λ r. ⌜ r .given ≡ given ⌝ }
-    ensures helps { λ r. ⌜ Helps (bare (tasksIn (now (rows .entry)))) (marked (search .left)) r ⌝ }
-{
-    let left = search.left;
-    let known = if given {
-        passing(rows, left)
-    } else {
-        [false; MAX_TASKS]
-    };
-    Hints {
-        given,
-        known,
-        other: search,
-    }
 }
 
 // The lowest of the levels that are not filled yet.
@@ -281,6 +264,12 @@ pub fn trial(rows: &[u64], rules: &[u64], active: [bool; MAX_RULES]) -> Search
         free: n,
         left,
     };
-    let hints = hints_at(rows, start, false);
+    let given = false;
+    let known = passing(rows, left, given);
+    let hints = Hints {
+        given,
+        known,
+        other: start,
+    };
     fill_levels(rows, rules, active, hints, start)
 }

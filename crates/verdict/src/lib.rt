@@ -19,7 +19,7 @@ ghost use Rattle.verdict.specs.Cut.{Cutting};
 use assignment::Hints;
 use assignment::Search;
 use assignment::fill_levels;
-use assignment::hints_at;
+use assignment::passing;
 use assignment::trial;
 use taskset::MAX_RULE_WORDS;
 use taskset::MAX_RULES;
@@ -146,8 +146,14 @@ fn core(rows: &[u64], rules: &[u64], active: [bool; MAX_RULES], stuck: Search) -
     if rules.len() < RULE_WORDS {
         return none;
     }
-    let hints = hints_at(rows, stuck, true);
-    let known = hints.known;
+    let left = stuck.left;
+    let given = true;
+    let known = passing(rows, left, given);
+    let hints = Hints {
+        given,
+        known,
+        other: stuck,
+    };
     let other = fill_levels(rows, rules, none, hints, stuck);
     if other.free == 0 {
         return cut_down(

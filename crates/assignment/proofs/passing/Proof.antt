@@ -21,38 +21,41 @@ abbrev Marked : List ℕ → List Bool → List Bool → Type 0
 Marked rows left known = (length known ≡ maxTasks) × Known (bare (tasksIn rows)) (marked left) (marked known)
 
 abbrev Inv-loop : tie.InvT-loop
-Inv-loop rows left n known₀ j₀ known j = (j ≤ n) × Marked rows left known
+Inv-loop rows given left known₀ n j₀ known j = (j ≤ n) × Marked rows left known
 
 abbrev μ-loop : tie.MeasureT-loop
-μ-loop rows left n known₀ j₀ known j = n - j
+μ-loop rows given left known₀ n j₀ known j = n - j
 
 -- the task of a turn is one of the tasks
 inside : (c : tie.In-loop Inv-loop μ-loop) → let j = c .before .loop .j in
-    (j < length (tasksIn (c .before .before .before .args .rows .now))) × (j < maxTasks)
-inside c = let h = tasks-count _ (c .before .before .before .pre) in (omega arith, omega arith)
+    (j < length (tasksIn (c .before .before .before .before .args .rows .now))) × (j < maxTasks)
+inside c = let h = tasks-count _ (c .before .before .before .before .pre) in (omega arith, omega arith)
 
 -- one that isn't left stays unmarked
-marks : (c : tie.Joined1 Inv-loop μ-loop) → let s = c .before .before .before .before in
-    Marked (s .args .rows .now) (s .args .t2) (c .if1 .known)
+marks : (c : tie.Joined2 Inv-loop μ-loop) → let s = c .before .before .before .before .before in
+    Marked (s .args .rows .now) (s .args .t2) (c .if2 .known)
 marks c =
     let at = c .before .before .loop in
-    let s = c .before .before .before .before in
+    let s = c .before .before .before .before .before in
     ⊎-elim
     (λ w. subst (Marked (s .args .rows .now) (s .args .t2)) (sym (w .2)) (
       length-set (at .known) (at .j) _ ∙ at .inv .1 .0,
       known-more _ _ (at .known) (at .j) (omega (arith, inside (c .before) .1, at .inv .1 .0)) _ (w .1 .ensures) (at .inv .1 .1),
     ))
     (λ w. subst (Marked (s .args .rows .now) (s .args .t2)) (sym (w .1)) (at .inv .1))
-    (c .if1 .came)
+    (c .if2 .came)
+
+returns : tie.Need-returns Inv-loop μ-loop
+returns c = known-none _ maxTasks _
 
 loop-holds : tie.Need-loop-holds Inv-loop μ-loop
 loop-holds c = (omega arith, (refl, known-none _ maxTasks _))
 
-array-read-if1 : tie.Need-array-read-if1 Inv-loop μ-loop
-array-read-if1 c = inside c .1
+array-read-if2 : tie.Need-array-read-if2 Inv-loop μ-loop
+array-read-if2 c = inside c .1
 
 passes-requires : tie.Need-passes-requires Inv-loop μ-loop
-passes-requires c κs = (c .before .before .before .before .pre, inside (c .before) .0)
+passes-requires c κs = (c .before .before .before .before .before .pre, inside (c .before) .0)
 
 array-write-known : tie.Need-array-write-known Inv-loop μ-loop
 array-write-known c = inside (c .before .before) .1
@@ -66,8 +69,8 @@ loop-less c = omega arith
 loop-again : tie.Need-loop-again Inv-loop μ-loop
 loop-again c = (omega arith, marks c)
 
-returns : tie.Need-returns Inv-loop μ-loop
-returns c = c .before .loop .inv .1 .1
+returns-2 : tie.Need-returns-2 Inv-loop μ-loop
+returns-2 c = c .before .loop .inv .1 .1
 
 pub passing-spec : {M : Type 1} → statement M
 passing-spec =
@@ -75,11 +78,12 @@ passing-spec =
     (tie.spec
     Inv-loop
     μ-loop
+    returns
     loop-holds
-    array-read-if1
+    array-read-if2
     passes-requires
     array-write-known
     add-j
     loop-less
     loop-again
-    returns)
+    returns-2)

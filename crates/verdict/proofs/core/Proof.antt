@@ -19,11 +19,8 @@ abbrev given : tie.Start → Problem
 given s = problem (listsIn (s .args .rows .now) (s .args .rules .now))
 
 -- where the search without rules began
-abbrev start : tie.After-hints-at → tie.Start
-start c = c .before .before .before .before
-
-marks-long : (s : tie.Start) → length (s .args .active) ≡ maxRules
-marks-long s = search needs
+abbrev start : tie.After-passing → tie.Start
+start c = let test = c .before .before in test .before .before .before
 
 -- no rules: nothing is tried
 returns : tie.Need-returns
@@ -32,28 +29,31 @@ returns c =
     let none : 0 ≡ length (rulesIn (s .args .rules .now)) = omega (arith, rules-length (s .args .rules .now)) in
     marked-first-none maxRules ∙ stay-none (feasible (given s)) 0 ∙ ap (coreOf (feasible (given s))) none
 
-hints-at-requires : tie.Need-hints-at-requires
-hints-at-requires c κs =
-    let s = c .before .before .before in
-    (s .pre .0 .tasks, searched-bare (given s) _ _ (s .pre .1 .1 .0 .searched))
+passing-requires : tie.Need-passing-requires
+passing-requires c κs = let s = c .before .before .before .before in s .pre .0 .tasks
 
 fill-levels-requires : tie.Need-fill-levels-requires
 fill-levels-requires c κs =
-    let s = start (c .before) in
-    (s .pre .0, (none-searched (given s) (lawful _ (s .pre .0)) maxRules _ _ (s .pre .1 .1 .0 .searched), c .before .hints-at .ensures .1))
+    let s = start c in
+    let stuck = s .pre .1 .1 .0 .searched in (
+      s .pre .0,
+      (
+        none-searched (given s) (lawful _ (s .pre .0)) maxRules _ _ stuck,
+        record { known = λ on. c .passing .ensures; other = λ on. searched-bare (given s) _ _ stuck },
+      ),
+    )
 
 cut-down-requires : tie.Need-cut-down-requires
 cut-down-requires c κs =
     let bare = c .before .before in
-    let hinted = bare .before .before in
-    let s = start hinted in (
+    let s = start (bare .before) in (
       s .pre .0,
       (
         record {
-          long = marks-long s;
+          long = search needs;
           stuck = s .pre .1 .1 .0;
           unfilled = s .pre .1 .1 .1;
-          known = hinted .hints-at .ensures .1 .known (hinted .hints-at .ensures .0);
+          known = bare .before .passing .ensures;
           other = searched-bare (given s) _ _ (bare .fill-levels .ensures .0 .searched);
         },
         s .pre .1 .0,
@@ -67,10 +67,10 @@ returns-2 c = c .cut-down .ensures
 returns-3 : tie.Need-returns-3
 returns-3 c =
     let bare = c .before .before in
-    let s = start (bare .before .before) in
+    let s = start (bare .before) in
     none-stay (given s) (lawful _ (s .pre .0)) maxRules _ (bare .fill-levels .ensures .0) (c .if2 .left)
 
 pub core-spec : {M : Type 1} → statement M
 core-spec =
     tie.close
-    (tie.spec returns hints-at-requires fill-levels-requires cut-down-requires returns-2 returns-3)
+    (tie.spec returns passing-requires fill-levels-requires cut-down-requires returns-2 returns-3)

@@ -1,11 +1,13 @@
 #!/usr/bin/env python3
 """Makes the stored texts and their answers.
 
-    make.py PATH/enumerate.py SEED COUNT DIR
+    make.py PATH/enumerate.py STAGE SEED COUNT DIR
 
-DIR/stdin gets COUNT drawn texts and then the texts below, joined by form feeds (byte 12); DIR/stdout gets
-what `orders` must write for each, one after the other. Every answer is the enumerating program's own. The
-texts below also carry the answer that document 01 gives them, and the two must agree.
+STAGE is the letter of the last request of document 02 that holds, here a. DIR/stdin gets COUNT drawn texts
+and then the texts below, joined by form feeds (byte 12); DIR/stdout gets what `orders` must write for each,
+one after the other. Every answer is the enumerating program's own: of all valid orders it gives the
+greatest, read from the lowest level up. The texts below also carry the answer that the papers give them,
+and the two must agree.
 """
 import importlib.util
 import os
@@ -262,16 +264,16 @@ def check_refusals(answers):
         sys.exit("make.py: a refusal is missing")
 
 
-def main(program, seed, count, room):
+def main(program, stage, seed, count, room):
     os.makedirs(room, exist_ok=True)
-    subprocess.run([sys.executable, program, "--vectors", seed, count, room], check=True)
+    subprocess.run([sys.executable, program, "--stage", stage, "--vectors", seed, count, room], check=True)
     sys.dont_write_bytecode = True
     spec = importlib.util.spec_from_file_location("enumerating", program)
     enumerating = importlib.util.module_from_spec(spec)
     spec.loader.exec_module(enumerating)
     texts, answers = [], []
     for text, want in made():
-        got = enumerating.answer(text)
+        got = enumerating.answer(text, stage)
         if got != want or b"\f" in text:
             sys.exit("make.py: %r\nhas the answer %r, and not %r" % (text[:200], got, want))
         texts.append(text)
@@ -284,6 +286,6 @@ def main(program, seed, count, room):
 
 
 if __name__ == "__main__":
-    if len(sys.argv) != 5:
-        sys.exit("usage: make.py PATH/enumerate.py SEED COUNT DIR")
+    if len(sys.argv) != 6:
+        sys.exit("usage: make.py PATH/enumerate.py STAGE SEED COUNT DIR")
     main(*sys.argv[1:])

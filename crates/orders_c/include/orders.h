@@ -16,11 +16,13 @@
  *
  *     order  count         then one line for each level, highest first: level, place, response
  *
- * Of several such orders it is the one that fills the levels from the lowest
- * up, each with the task of the greatest place that the rules let stand there
- * and that meets its deadline there. Where no such order exists, the listing
- * is a core: rules under which there is none, while with any one of them taken
- * out there is one:
+ * One text has one order. Its levels are filled from the lowest upward. A task
+ * may take a level when every task that a rule puts below it has one; of the
+ * tasks that may and that meet their deadline with every task still without a
+ * level above them, the one with the greatest place takes it.
+ *
+ * Where no such order exists, the listing is a core: rules under which there is
+ * none, while with any one of them taken out there is one:
  *
  *     core  count          then one line for each rule: rule place, u, l
  *

@@ -14,11 +14,11 @@ use Rattle.verdict.specs.declared.Verdict.{Verdict}
 use Rattle.verdict.specs.Verdict.{deciding}
 use Rattle.listing.specs.declared.Shown.{Shown}
 use Rattle.listing.specs.Listing.{listing, Outcome, refused, shown, outcome, fitted, shownAs, bufferAfter, maxListing}
-use Rattle.listing.specs.GivenLaws.{Kind, refusal, verdict}
+use Rattle.listing.specs.GivesLaws.{RefusedOrListed, refusal, verdict}
 use Rattle.answer.specs.declared.Answered.{Answered}
 use Rattle.answer.specs.Answer.{answerTo, lineOf, answered, hostNumber, bad, badLine, printed, report, maxBad}
-use Rattle.answer.specs.Host.{heardIn, HostGets}
-use Rattle.answer.specs.Replays.{answer-fitted, answer-short, answer-fits, host-gets}
+use Rattle.answer.specs.Host.{heardIn, TextGives, HostGets}
+use Rattle.answer.specs.Replays.{answer-fitted, answer-short, answer-fits, text-gives}
 
 -- a `bad` line is short
 pub bad-short : (line k : ℕ) → line < 2 ^ 64 → k < 2 ^ 64 → length (badLine line k) ≤ maxBad
@@ -41,7 +41,11 @@ bad-short line k h g =
 abbrev pub Answers : List ℕ → List ℕ → Answered → List ℕ → Type 0
 Answers text buffer a xs =
     let o = fitted (length buffer) (answerTo text) in
-    (a ≡ answered (lineOf text) o) × (xs ≡ bufferAfter o buffer)
+    (a ≡ answered (lineOf text) o) × ((xs ≡ bufferAfter o buffer) × (a .refusal ≡ 0 → TextGives text (a .count) buffer xs))
+
+answers : (text buffer : List ℕ) (a : Answered) (xs : List ℕ) → let o = fitted (length buffer) (answerTo text) in
+    (a ≡ answered (lineOf text) o) × (xs ≡ bufferAfter o buffer) → Answers text buffer a xs
+answers text buffer a xs h = (h .0, (h .1, text-gives text buffer xs a (h .0) (h .1)))
 
 -- what showing answers, with the line
 abbrev withLine : ℕ → Shown → Answered
@@ -55,7 +59,7 @@ module _ (text buffer : List ℕ) where
   -- the text is refused
   pub answer-refused : (k line : ℕ) → k ≡ reading text .refusal → line ≡ reading text .line → (k ≡ 0 → ⊥)
       → Answers text buffer (record { refusal = k; line = line; count = 0 }) buffer
-  answer-refused k line e f nonzero = rw (sym e, sym f, ne-eqb k 0 nonzero) (refl, refl)
+  answer-refused k line e f nonzero = answers text buffer _ buffer (rw (sym e, sym f, ne-eqb k 0 nonzero) (refl, refl))
 
   -- it is read, and the verdict on its lists is shown
   pub answer-shown : reading text .refusal ≡ 0 → (l : Lists) → l ≡ reading text .lists → (line : ℕ) → line ≡ reading text .line
@@ -65,8 +69,9 @@ module _ (text buffer : List ℕ) where
       let same : outcome l v ≡ answerTo text =
       ap (outcome l) decided ∙ ap (λ (m : Lists). outcome m (deciding m)) is ∙ rw (eq-eqb (reading text .refusal) 0 good) in
       let fit = fitted (length buffer) (outcome l v) in
-      subst (λ (o : Outcome). let p = fitted (length buffer) o in (withLine line s ≡ answered (lineOf text) p) × (xs ≡ bufferAfter p buffer)) same
-      (ap (withLine line) (h .0) ∙ lined line fit ∙ ap (λ (n : ℕ). answered n fit) at, h .1)
+      answers text buffer (withLine line s) xs
+      (subst (λ (o : Outcome). let p = fitted (length buffer) o in (withLine line s ≡ answered (lineOf text) p) × (xs ≡ bufferAfter p buffer)) same
+      (ap (withLine line) (h .0) ∙ lined line fit ∙ ap (λ (n : ℕ). answered n fit) at, h .1))
 
 -- ---- printed, or handed to a host
 
@@ -87,11 +92,12 @@ module _ (text buffer : List ℕ) (a : Answered) (xs : List ℕ) (said : Answers
   fit = fitted (length buffer) (answerTo text)
 
   -- it is the refusal that is not 0
-  is-refused : (a .refusal ≡ 0 → ⊥) → (fit ≡ refused (a .refusal)) × (a .line ≡ lineOf text)
+  is-refused : (a .refusal ≡ 0 → ⊥) → (fit ≡ refused (a .refusal)) × (a .line ≡ lineOf text) × (a .refusal < 100)
   is-refused nonzero = go fit (answer-fitted text (length buffer)) (said .0)
     where
-      go : (o : Outcome) → Kind (heardIn text) o → a ≡ answered (lineOf text) o → (o ≡ refused (a .refusal)) × (a .line ≡ lineOf text)
-      go o (refusal k some few) e = rw e (refl, refl)
+      go : (o : Outcome) → RefusedOrListed (heardIn text) o → a ≡ answered (lineOf text) o
+          → (o ≡ refused (a .refusal)) × (a .line ≡ lineOf text) × (a .refusal < 100)
+      go o (refusal k some few) e = rw e (refl, refl, few)
       go o (verdict some) e = absurd (nonzero (rw e))
 
   -- or else the listing, which is short
@@ -101,7 +107,7 @@ module _ (text buffer : List ℕ) (a : Answered) (xs : List ℕ) (said : Answers
   is-shown : a .refusal ≡ 0 → (fit ≡ shown bytes) × (a .count ≡ length bytes) × (a .count ≤ maxListing)
   is-shown good = go fit (answer-fitted text (length buffer)) (said .0)
     where
-      go : (o : Outcome) → Kind (heardIn text) o → a ≡ answered (lineOf text) o
+      go : (o : Outcome) → RefusedOrListed (heardIn text) o → a ≡ answered (lineOf text) o
           → (o ≡ shown bytes) × (a .count ≡ length bytes) × (a .count ≤ maxListing)
       go o (refusal k some few) e = absurd (omega (arith, good, ap (λ (b : Answered). b .refusal) e))
       go o (verdict some) e = rw e (refl, refl, answer-short text some)
@@ -122,31 +128,36 @@ module _ (text buffer : List ℕ) (a : Answered) (xs : List ℕ) (said : Answers
     pub report-shown : a .refusal ≡ 0 → Reports text buffer (a .count) xs
     report-shown good =
         let (is, count, _) = is-shown good in
-        reports (a .count) xs bytes (fit-printed _ is) count (said .1 ∙ rw is)
+        reports (a .count) xs bytes (fit-printed _ is) count (said .1 .0 ∙ rw is)
 
     -- of a refusal nothing does yet, and its line goes there
     pub report-bad : (a .refusal ≡ 0 → ⊥) → (n : ℕ) (ys : List ℕ)
         → (n ≡ length (badLine (a .line) (a .refusal))) × (ys ≡ onto (badLine (a .line) (a .refusal)) xs)
         → Reports text buffer n ys
     report-bad nonzero n ys h =
-        let (is, line) = is-refused nonzero in
+        let (is, line, _) = is-refused nonzero in
         let out = badLine (a .line) (a .refusal) in
         let is-bad : report text ≡ out = fit-printed _ is ∙ ap (λ (l : ℕ). badLine l (a .refusal)) (sym line) in
-        let kept : xs ≡ buffer = said .1 ∙ rw is in
+        let kept : xs ≡ buffer = said .1 .0 ∙ rw is in
         reports n ys out is-bad (h .0) (h .1 ∙ ap (onto out) kept)
 
   -- ---- for a host
 
-  hosts : (r : ℕ) → r ≡ hostNumber fit → Hosts text buffer r xs
-  hosts r e = (e, (said .1, host-gets text buffer xs r e (said .1)))
+  hosts : (r : ℕ) → r ≡ hostNumber fit → HostGets text r buffer xs → Hosts text buffer r xs
+  hosts r e gets = (e, (said .1 .0, gets))
 
   pub host-refused : (a .refusal ≡ 0 → ⊥) → Hosts text buffer (a .refusal) xs
-  host-refused nonzero = hosts (a .refusal) (ap hostNumber (sym (is-refused nonzero .0)))
+  unfolding HostGets
+  host-refused nonzero =
+      let (is, _, few) = is-refused nonzero in
+      hosts (a .refusal) (ap hostNumber (sym is)) (λ count e. absurd (omega (arith, few, e)))
 
   pub host-short : a .refusal ≡ 0 → a .count ≤ maxListing
   host-short good = is-shown good .2
 
   pub host-listed : a .refusal ≡ 0 → Hosts text buffer (100 + a .count) xs
+  unfolding HostGets
   host-listed good =
       let (is, count, _) = is-shown good in
       hosts (100 + a .count) (ap (λ (n : ℕ). 100 + n) count ∙ ap hostNumber (sym is))
+      (λ n e. let same : a .count ≡ n = omega arith in subst (λ (m : ℕ). TextGives text m buffer xs) same (said .1 .1 good))

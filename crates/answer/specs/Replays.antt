@@ -1,5 +1,5 @@
--- What a host gets is what replaying the text's lines as calls gives, so demand 3 covers it. Assumes nothing.
-use mathlib.Core.Path.{_≡_, refl, sym, subst, subst₂}
+-- What a text gets is what replaying its lines as calls gives, so demand 3 and the requests cover it. Assumes nothing.
+use mathlib.Core.Path.{_≡_, refl}
 use mathlib.Core.Bool.{Bool, true, false}
 use mathlib.Core.List.{List, [], _∷_, _++_}
 use Prim.Native.Nat.{ℕ, zero, suc, _+_, _-_, _≤_}
@@ -9,7 +9,6 @@ use lib.Dec.{eqb}
 use lib.ListN.{length, replicate}
 use borrow.Author.Tests.{eqb-true, eqb-false, le-leb}
 use Rattle.sets.specs.Choice.{pick}
-use Rattle.sets.specs.Onto.{onto}
 use Rattle.taskset.specs.declared.Call.{Call}
 use Rattle.taskset.specs.declared.Call.the-variants.{AddTask, AddRule}
 use Rattle.taskset.specs.Model.{Lists, noLists, Sound}
@@ -23,17 +22,15 @@ use Rattle.text.specs.Text.{lineIn, reading, asking, askedIn, callsAsked}
 use Rattle.text.specs.Accepted.{Short, task-line-exactly, rule-line-exactly}
 use Rattle.text.specs.Asking.{reading-runs, reading-small}
 use Rattle.verdict.specs.Verdict.{deciding}
-use Rattle.verdict.specs.Explained.{deciding-correct}
 use Rattle.replay.specs.Calls.{callsIn, callWords, Words, Asked}
 use Rattle.replay.specs.Replaying.{every-list}
 use Rattle.replay.specs.Theorem.{replay-decides}
-use Rattle.listing.specs.Listing.{listing, Outcome, refused, outcome, fitted, bufferAfter, maxListing}
-use Rattle.listing.specs.Given.{Gives}
-use Rattle.listing.specs.GivenLaws.{Kind, refusal, verdict, fitted-kind, decided-kind, gives}
-use Rattle.listing.specs.Showing.{outcome-shown}
+use Rattle.listing.specs.Listing.{listing, Outcome, refused, shown, shownAs, outcome, fitted, bufferAfter, maxListing}
+use Rattle.listing.specs.GivesLaws.{RefusedOrListed, refusal, verdict, fitted-either, decided-shown, decided-either, either-gives}
 use Rattle.listing.specs.Short.{deciding-short}
-use Rattle.answer.specs.Answer.{answerTo, hostNumber}
-use Rattle.answer.specs.Host.{heardIn, HostGets}
+use Rattle.answer.specs.declared.Answered.{Answered}
+use Rattle.answer.specs.Answer.{answerTo, lineOf, answered}
+use Rattle.answer.specs.Host.{heardIn, TextGives}
 
 -- ---- the lines' calls are words that `replay` can be handed
 
@@ -73,41 +70,39 @@ module _ (text : List ℕ) where
   sound : Sound l
   sound = heard-sound noLists none-sound (callsAsked text)
 
-  answer-kind : Kind l (answerTo text)
-  answer-kind = go (eqb (reading text .refusal) 0) refl
+  answer-either : RefusedOrListed l (answerTo text)
+  answer-either = go (eqb (reading text .refusal) 0) refl
     where
       go : (b : Bool) → eqb (reading text .refusal) 0 ≡ b
-          → Kind l (pick b (outcome (reading text .lists) (deciding (reading text .lists))) (refused (reading text .refusal)))
+          → RefusedOrListed l (pick b (outcome (reading text .lists) (deciding (reading text .lists))) (refused (reading text .refusal)))
       go false e = refusal _ (pos-of-ne-zero (eqb-false (reading text .refusal) 0 e)) (reading-small text)
-      go true e = rw (reading-runs text (eqb-true (reading text .refusal) 0 e) .0) (decided-kind l sound)
+      go true e = rw (reading-runs text (eqb-true (reading text .refusal) 0 e) .0) (decided-either l sound)
 
   -- so also in a buffer
-  pub answer-fitted : (room : ℕ) → Kind l (fitted room (answerTo text))
-  answer-fitted room = fitted-kind l room (answerTo text) answer-kind
+  pub answer-fitted : (room : ℕ) → RefusedOrListed l (fitted room (answerTo text))
+  answer-fitted room = fitted-either l room (answerTo text) answer-either
 
   -- ---- a buffer of maxListing bytes is always long enough
 
   pub answer-short : 1 ≤ length (l .tasks) → length (listing l (deciding l)) ≤ maxListing
-  answer-short some = deciding-short l sound (listing l (deciding l)) (outcome-shown l (deciding l) (deciding-correct l sound some .one))
+  answer-short some = deciding-short l sound (listing l (deciding l)) (decided-shown l sound some)
 
   pub answer-fits : (room : ℕ) → maxListing ≤ room → fitted room (answerTo text) ≡ answerTo text
-  answer-fits room h = go (answerTo text) answer-kind
+  answer-fits room h = go (answerTo text) answer-either
     where
-      go : (o : Outcome) → Kind l o → fitted room o ≡ o
+      go : (o : Outcome) → RefusedOrListed l o → fitted room o ≡ o
       go o (refusal k some few) = refl
       go o (verdict some) = rw (le-leb (length (listing l (deciding l))) room (omega (arith, answer-short some)))
 
-  -- ---- so the call does what it should
+  -- ---- so what is listed gives what it should
 
-  pub host-gets : (was is : List ℕ) (r : ℕ) → r ≡ hostNumber (fitted (length was) (answerTo text))
-      → is ≡ bufferAfter (fitted (length was) (answerTo text)) was → HostGets text r was is
-  unfolding HostGets
-  host-gets was is r e f =
-      subst₂ (λ (n : ℕ) (bytes : List ℕ). HostGets text n was bytes) (sym e) (sym f) (go _ (answer-fitted (length was)))
-    where
-      go : (o : Outcome) → Kind l o → HostGets text (hostNumber o) was (bufferAfter o was)
-      go o (refusal k some few) big = absurd (omega arith)
-      go o (verdict some) big =
-          let bytes = listing l (deciding l) in
-          let count : length bytes ≡ 100 + length bytes - 100 = omega arith in
-          rw (replay-decides (callsAsked text)) (subst (λ (n : ℕ). Gives l (deciding l) n was (onto bytes was)) count (gives l sound some was))
+  as-shown : (line : ℕ) (o : Outcome) (a : Answered) → a ≡ answered line o → record { refusal = a .refusal; count = a .count } ≡ shownAs o
+  as-shown line (refused k) a e = rw e
+  as-shown line (shown bytes) a e = rw e
+
+  pub text-gives : (was is : List ℕ) (a : Answered) → let o = fitted (length was) (answerTo text) in
+      a ≡ answered (lineOf text) o → is ≡ bufferAfter o was → a .refusal ≡ 0 → TextGives text (a .count) was is
+  text-gives was is a e f good =
+      let o = fitted (length was) (answerTo text) in
+      let shown-so = as-shown (lineOf text) o a e in
+      rw (replay-decides (callsAsked text)) (either-gives l sound o (answer-fitted (length was)) was _ is shown-so f good)

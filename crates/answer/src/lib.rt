@@ -6,6 +6,7 @@ ghost use lib.ListN.{length, take};
 ghost use Rattle.sets.specs.Onto.{onto};
 ghost use Rattle.listing.specs.Listing.{fitted, bufferAfter, maxListing};
 ghost use Rattle.answer.specs.Answer.{answerTo, lineOf, answered, badLine, report, maxBad};
+ghost use Rattle.answer.specs.Host.{TextGives};
 use lines::put_line;
 use listing::show;
 use taskset::MAX_RULE_WORDS;
@@ -26,6 +27,7 @@ pub struct Answered {
 pub fn answer(text: &[u8], out: &mut [u8]) -> Answered
     ensures { λ r. ⌜ r ≡ answered (lineOf (now (text .entry))) (fitted (length (now (out .entry))) (answerTo (now (text .entry)))) ⌝ }
     ensures bytes { λ r. ⌜ now (out .exit) ≡ bufferAfter (fitted (length (now (out .entry))) (answerTo (now (text .entry)))) (now (out .entry)) ⌝ }
+    ensures gives { λ r. ⌜ (r .refusal ≡ 0 → TextGives (now (text .entry)) (r .count) (now (out .entry)) (now (out .exit))) ⌝ }
 {
     let mut tasks = [0u64; MAX_TASK_WORDS];
     let mut list = [0u64; MAX_RULE_WORDS];

@@ -21,16 +21,20 @@ leftAt order k j = leb (rank order j) k
 
 -- task i may take the level, and meets its deadline there, with the tasks of `left` still without one
 pub record MayTake (rules : List Rule) (Meets : ℕ → (ℕ → Bool) → Type 0) (active left : ℕ → Bool) (i : ℕ) : Type 0 where
-  pub waits : T (left i)
+  pub isLeft : T (left i)
   -- every task that an active rule puts below it has a level
   pub below : (k : ℕ) → k < length rules → T (active k) → ruleAt rules k .higher .0 ≡ i → T (left (ruleAt rules k .lower .0)) → ⊥
   -- every other task still without a level is above it
   pub meets : Meets i (without left i)
 
--- at every level stands the task of the greatest index that may take it
+-- each task of an order may take its level
+abbrev pub EachMayTake : List Rule → (ℕ → (ℕ → Bool) → Type 0) → (ℕ → Bool) → List ℕ → Type 0
+EachMayTake rules Meets active order = (k : ℕ) → k < length order → MayTake rules Meets active (leftAt order k) (getD order k 0)
+
+-- and no task of a greater index may
 pub record Canonical (n : ℕ) (rules : List Rule) (Meets : ℕ → (ℕ → Bool) → Type 0) (active : ℕ → Bool) (order : List ℕ) : Type 0 where
   pub isOrder : IsOrder n order
-  pub takes : (k : ℕ) → k < length order → MayTake rules Meets active (leftAt order k) (getD order k 0)
+  pub each : EachMayTake rules Meets active order
   pub greatest : (k : ℕ) → k < length order → (i : ℕ) → MayTake rules Meets active (leftAt order k) i → i ≤ getD order k 0
 
 -- by the response-time equation
@@ -42,7 +46,7 @@ CanonicalOrder l active order = Canonical (length (l .tasks)) (l .rules) (MeetsD
 -- read from the lowest level up: at the first level where the two differ, the one has the greater index
 pub record Greater (order other : List ℕ) : Type 0 where
   pub level : ℕ
-  pub inside : level < length order
+  pub inside : (level < length order) × (level < length other)
   pub same : drop (suc level) order ≡ drop (suc level) other
   pub there : getD other level 0 < getD order level 0
 

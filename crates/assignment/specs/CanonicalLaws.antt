@@ -1,5 +1,5 @@
--- The canonical order: it is the only one, it is the greatest of all valid ones when read from the lowest level up, and it is the
--- one that the assignment finds. For any meaning of a deadline met. Assumes nothing.
+-- The canonical order, for any meaning of a deadline met: it is the only one, and the greatest of all valid ones when read from
+-- the lowest level up. And for any test: it is the one that the assignment finds. Assumes nothing.
 use mathlib.Core.Path.{_≡_, sym, ap, ap₂, subst, _∙_}
 use mathlib.Core.Bool.{Bool}
 use mathlib.Core.List.{List, _∷_}
@@ -11,13 +11,13 @@ use lib.Dec.{T}
 use lib.ListN.{length, getD, drop}
 use lib.Seq.{drop-cons, drop-length, getD-drop}
 use Rattle.sets.specs.Choice.{lt-or-le}
-use Rattle.sets.specs.Bounded.{Subset, IsGreatest}
+use Rattle.sets.specs.Bounded.{IsGreatest}
 use Rattle.taskset.specs.declared.Rule.{Rule}
-use Rattle.assignment.specs.Orders.{IsOrder, Valid}
-use Rattle.assignment.specs.Canonical.{leftAt, MayTake, Canonical, Greater}
-use Rattle.assignment.specs.Audsley.{Problem, Passes, unassigned, mayTake, assign}
-use Rattle.assignment.specs.Levels.{unassigned-is, order-length, left-unassigned, Takes, valid-takes}
-use Rattle.assignment.specs.Decision.{Lawful, may-takes, takes-may, filled-valid, assign-filled, assign-keeps}
+use Rattle.assignment.specs.Orders.{IsOrder}
+use Rattle.assignment.specs.Canonical.{leftAt, MayTake, EachMayTake, Canonical, Greater}
+use Rattle.assignment.specs.Audsley.{Problem, Passes, unassigned, mayTake, assign, Filled}
+use Rattle.assignment.specs.Levels.{unassigned-is, may-other, order-length, left-unassigned}
+use Rattle.assignment.specs.Decision.{may-test, filled-order, filled-each, assign-filled, assign-keeps}
 
 -- ---- read from the lowest level up
 
@@ -43,7 +43,7 @@ greater-once {a} {b} g h =
 
 module _ {n : ℕ} {rules : List Rule} {Meets : ℕ → (ℕ → Bool) → Type 0} {active : ℕ → Bool} where
   -- an order whose tasks may take their levels is the canonical one, or less
-  module _ {order other : List ℕ} (c : Canonical n rules Meets active order) (is : IsOrder n other) (takes : Takes rules Meets active other)
+  module _ {order other : List ℕ} (c : Canonical n rules Meets active order) (is : IsOrder n other) (each : EachMayTake rules Meets active other)
     where
       abbrev From : ℕ → Type 0
       From k = (drop k other ≡ drop k order) ⊎ Greater order other
@@ -56,36 +56,31 @@ module _ {n : ℕ} {rules : List Rule} {Meets : ℕ → (ℕ → Bool) → Type 
       up k h e =
           let left : leftAt other k ≡ leftAt order k =
           left-unassigned is k (omega (arith, long)) ∙ ap (unassigned n) e ∙ sym (left-unassigned (c .isOrder) k h) in
-          let may = subst (λ (l : ℕ → Bool). MayTake rules Meets active l (getD other k 0)) left (takes k (omega (arith, long))) in
+          let may = subst (λ (l : ℕ → Bool). MayTake rules Meets active l (getD other k 0)) left (each k (omega (arith, long))) in
           ⊎-elim
           (λ same.
           inl (drop-cons other k 0 (omega (arith, long)) ∙ ap₂ (λ (x : ℕ) (xs : List ℕ). x ∷ xs) same e ∙ sym (drop-cons order k 0 h)))
-          (λ less. inr (record { level = k; inside = h; same = sym e; there = less }))
+          (λ less. inr (record { level = k; inside = (h, omega (arith, long)); same = sym e; there = less }))
           (eq-or-lt-of-le (c .greatest k h (getD other k 0) may))
 
-      down : (k : ℕ) → k ≤ length order → From k → From 0
-      down zero h from = from
-      down (suc k) h (inl e) = down k (omega arith) (up k h e)
-      down (suc k) h (inr g) = inr g
+      upward : (k : ℕ) → k ≤ length order → From k → From 0
+      upward zero h from = from
+      upward (suc k) h (inl e) = upward k (omega arith) (up k h e)
+      upward (suc k) h (inr g) = inr g
 
       pub canonical-greatest : (other ≡ order) ⊎ Greater order other
       canonical-greatest =
-          down (length order) (omega arith)
+          upward (length order) (omega arith)
           (inl (ap (λ (k : ℕ). drop k other) (sym long) ∙ drop-length other ∙ sym (drop-length order)))
 
   -- so there is one such order at most
   pub canonical-unique : {one other : List ℕ} → Canonical n rules Meets active one → Canonical n rules Meets active other → one ≡ other
   canonical-unique a b =
       ⊎-elim (λ e. sym e)
-      (λ g. ⊎-elim (λ e. e) (λ h. absurd (greater-once g h)) (canonical-greatest b (a .isOrder) (a .takes)))
-      (canonical-greatest a (b .isOrder) (b .takes))
+      (λ g. ⊎-elim (λ e. e) (λ h. absurd (greater-once g h)) (canonical-greatest b (a .isOrder) (a .each)))
+      (canonical-greatest a (b .isOrder) (b .each))
 
 -- ---- where deadlines met and active rules come to the same, so does the order
-
-may-other : {rules : List Rule} {M N : ℕ → (ℕ → Bool) → Type 0} {more less left : ℕ → Bool} {i : ℕ}
-    → ((i : ℕ) (above : ℕ → Bool) → M i above → N i above) → Subset (length rules) less more
-    → MayTake rules M more left i → MayTake rules N less left i
-may-other change fewer m = record { waits = m .waits; below = λ k h on. m .below k h (fewer k h on); meets = change _ _ (m .meets) }
 
 pub canonical-other : {n : ℕ} {rules : List Rule} {M N : ℕ → (ℕ → Bool) → Type 0} {a b : ℕ → Bool} {order : List ℕ}
     → ((i : ℕ) (above : ℕ → Bool) → M i above ↔ N i above) → ((k : ℕ) → k < length rules → T (a k) ↔ T (b k))
@@ -93,7 +88,7 @@ pub canonical-other : {n : ℕ} {rules : List Rule} {M N : ℕ → (ℕ → Bool
 canonical-other meets active c =
     record {
       isOrder = c .isOrder;
-      takes = λ k h. may-other (λ i above. meets i above .0) (λ j l. active j l .1) (c .takes k h);
+      each = λ k h. may-other (λ i above. meets i above .0) (λ j l. active j l .1) (c .each k h);
       greatest = λ k h i m. c .greatest k h i (may-other (λ i above. meets i above .1) (λ j l. active j l .0) m);
     }
 
@@ -101,32 +96,39 @@ canonical-other meets active c =
 
 module _ (p : Problem) (active : ℕ → Bool) where
   -- each level went to the greatest index that might take it
-  abbrev Led : List ℕ → Type 0
-  Led low = (k : ℕ) → k < length low
+  abbrev ByGreatest : List ℕ → Type 0
+  ByGreatest low = (k : ℕ) → k < length low
       → IsGreatest (p .tasks) (mayTake p active (unassigned (p .tasks) (drop (suc k) low))) (getD low k 0)
 
-  led-more : (i : ℕ) (low : List ℕ) → IsGreatest (p .tasks) (mayTake p active (unassigned (p .tasks) low)) i → Led low → Led (i ∷ low)
-  led-more i low g led zero h = g
-  led-more i low g led (suc k) h = led k (le-of-suc-le-suc h)
+  by-more : (i : ℕ) (low : List ℕ) → IsGreatest (p .tasks) (mayTake p active (unassigned (p .tasks) low)) i → ByGreatest low
+      → ByGreatest (i ∷ low)
+  by-more i low g by zero h = g
+  by-more i low g by (suc k) h = by k (le-of-suc-le-suc h)
 
-  pub assign-canonical : Lawful p → length (assign p active) ≡ p .tasks
-      → Canonical (p .tasks) (p .rules) (Passes p) active (assign p active)
-  assign-canonical lawful whole =
+  pub assign-canonical : length (assign p active) ≡ p .tasks → Canonical (p .tasks) (p .rules) (Passes p) active (assign p active)
+  assign-canonical whole =
       record {
-        isOrder = valid .isOrder;
-        takes = valid-takes (valid .isOrder) valid;
+        isOrder = is;
+        each = filled-each p active order filled whole;
         greatest = λ k h i m.
-            let left = unassigned (p .tasks) (drop (suc k) order) in
-            let may = takes-may p active left i (rw (left-unassigned (valid .isOrder) k h) at m) in
-            let inside = unassigned-is (p .tasks) (drop (suc k) order) i (may-takes p active left i may .waits) .0 in
-            ⊎-elim (λ more. absurd (led k h .last i inside more may)) (λ le. le) (lt-or-le (getD order k 0) i);
+            let rest = drop (suc k) order in
+            let may = rw (left-unassigned is k h) at m in
+            ⊎-elim
+            (λ more.
+            absurd
+            (by k h .last i (unassigned-is (p .tasks) rest i (may .isLeft) .0) more (may-test p active (unassigned (p .tasks) rest) i may)))
+            (λ le. le)
+            (lt-or-le (getD order k 0) i);
       }
     where
       order : List ℕ
       order = assign p active
 
-      valid : Valid (p .tasks) (p .rules) (Passes p) active order
-      valid = filled-valid p active order (assign-filled p active) whole lawful
+      filled : Filled p active order
+      filled = assign-filled p active
 
-      led : Led order
-      led = assign-keeps p active Led led-more (λ k h. absurd (not-suc-le-zero h)) .0
+      is : IsOrder (p .tasks) order
+      is = filled-order p active order filled whole
+
+      by : ByGreatest order
+      by = assign-keeps p active ByGreatest by-more (λ k h. absurd (not-suc-le-zero h)) .0

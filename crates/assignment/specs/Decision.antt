@@ -6,29 +6,29 @@ use mathlib.Core.Bool.{Bool, _&&_, not}
 use mathlib.Core.List.{List, [], _∷_}
 use mathlib.Core.Logic.{_⊎_, inl, inr, ⊎-elim, _↔_}
 use mathlib.Core.Option.{Option}
-use Prim.Native.Nat.{ℕ, zero, suc, _+_, _≤_, _<_}
-use native.Mathlib.Nat.{not-suc-le-zero, le-of-suc-le-suc, eq-or-lt-of-le, eq-zero-or-pos}
+use Prim.Native.Nat.{ℕ, zero, suc, _+_, _<_}
+use native.Mathlib.Nat.{not-suc-le-zero, le-of-suc-le-suc, eq-zero-or-pos}
 use native.Mathlib.Omega.{arith}
-use lib.Dec.{T, eqb, lt→ltb, eqb→eq, eqb-refl}
+use lib.Dec.{T, eqb, le→leb, eqb→eq, eqb-refl}
 use lib.ListN.{length, getD, drop, length-drop}
 use lib.Seq.{getD-drop}
 use borrow.Author.Tests.{eq-eqb}
 use Rattle.sets.specs.Choice.{option, true→T, not→refuted, refuted→not, decided, lt-or-le, and-intro, and-left, and-right}
 use Rattle.sets.specs.Bounded.{Subset, without, without-still, without-other, all, all-at, all-of}
 use Rattle.sets.specs.Bounded.{greatest, IsGreatest, Greatest, found, nothing, greatest-is, count, count-some, count-pos}
-use Rattle.sets.specs.Rank.{rank, Distinct, getD-rank, rank-getD, distinct-cons}
+use Rattle.sets.specs.Rank.{rank, Distinct, getD-rank, distinct-cons}
 use Rattle.taskset.specs.declared.Rule.{Rule}
 use Rattle.taskset.specs.Model.{ruleAt}
-use Rattle.assignment.specs.Orders.{IsOrder, hp, Valid, noRule}
-use Rattle.assignment.specs.Canonical.{MayTake}
+use Rattle.assignment.specs.Orders.{IsOrder, Valid, noRule}
+use Rattle.assignment.specs.Canonical.{leftAt, MayTake, EachMayTake}
 use Rattle.assignment.specs.Audsley.{Problem, withoutRules, passes, Passes, unassigned, blocks, ready, mayTake}
 use Rattle.assignment.specs.Audsley.{fill, assign, feasible, Filled, empty, level, Stuck}
-use Rattle.assignment.specs.Levels.{unassigned-of, unassigned-is, assigned, levels-count, left-unassigned, takes-valid}
+use Rattle.assignment.specs.Levels.{unassigned-of, unassigned-is, assigned, levels-count, may-other}
+use Rattle.assignment.specs.Levels.{left-unassigned, valid-each, each-valid}
 
--- what the argument asks of a problem: rules between its tasks, and a test that fewer tasks above can't break
+-- what the argument asks of a problem: rules for its tasks, and a test that fewer tasks above can't break
 pub record Lawful (p : Problem) : Type 0 where
-  pub indices : (k : ℕ) → k < length (p .rules)
-      → (ruleAt (p .rules) k .higher .0 < p .tasks) × (ruleAt (p .rules) k .lower .0 < p .tasks)
+  pub indices : (k : ℕ) → k < length (p .rules) → ruleAt (p .rules) k .higher .0 < p .tasks
   pub fewer : (i : ℕ) (less above : ℕ → Bool) → Subset (p .tasks) less above → T (passes p i above) → T (passes p i less)
 
 -- ---- levels that tasks may have taken
@@ -42,12 +42,12 @@ module _ (p : Problem) (active : ℕ → Bool) where
     abbrev May : Type 0
     May = MayTake (p .rules) (Passes p) active left i
 
-    pub may-takes : T (mayTake p active left i) → May
+    pub test-may : T (mayTake p active left i) → May
     unfolding mayTake ready
-    may-takes t =
+    test-may t =
         let able = and-left (ready (p .rules) active left i) (passes p i (without left i)) t in
         record {
-          waits = and-left (left i) (all (length (p .rules)) unblocked) able;
+          isLeft = and-left (left i) (all (length (p .rules)) unblocked) able;
           below = λ k h on e f.
               let u = ruleAt (p .rules) k .higher .0 in
               let l = left (ruleAt (p .rules) k .lower .0) in
@@ -57,11 +57,11 @@ module _ (p : Problem) (active : ℕ → Bool) where
           meets = and-right (ready (p .rules) active left i) (passes p i (without left i)) t;
         }
 
-    pub takes-may : May → T (mayTake p active left i)
+    pub may-test : May → T (mayTake p active left i)
     unfolding mayTake ready
-    takes-may m =
+    may-test m =
         and-intro (ready (p .rules) active left i) (passes p i (without left i))
-        (and-intro (left i) (all (length (p .rules)) unblocked) (m .waits)
+        (and-intro (left i) (all (length (p .rules)) unblocked) (m .isLeft)
         (all-of (length (p .rules)) unblocked
         (λ k h. refuted→not (blocks (p .rules) active left i k) (λ b.
         let u = ruleAt (p .rules) k .higher .0 in
@@ -69,9 +69,6 @@ module _ (p : Problem) (active : ℕ → Bool) where
         let both = and-left (active k && l) (eqb u i) b in
         m .below k h (and-left (active k) l both) (eqb→eq u i (and-right (active k && l) (eqb u i) b)) (and-right (active k) l both)))))
         (m .meets)
-
-  may-unassigned : (low : List ℕ) (i : ℕ) → T (mayTake p active (unassigned (p .tasks) low) i) → T (unassigned (p .tasks) low i)
-  may-unassigned low i t = may-takes (unassigned (p .tasks) low) i t .waits
 
   -- each level was given to a task that might take it
   filled-at : (low : List ℕ) → Filled p active low → (k : ℕ) → k < length low
@@ -95,7 +92,7 @@ module _ (p : Problem) (active : ℕ → Bool) where
       let at = suc k + rank rest j in
       let same : getD low at 0 ≡ j = sym (getD-drop (suc k) low (rank rest j) 0) ∙ getD-rank rest j m in
       out at (omega arith) (omega (arith, m, length-drop (suc k) low)) (subst (λ (q : ℕ). T (left q)) (sym same) (still .0)))))
-      (may-takes (unassigned (p .tasks) rest) i (filled-at low f k h) .meets)
+      (test-may (unassigned (p .tasks) rest) i (filled-at low f k h) .meets)
 
   pub filled-only : (low : List ℕ) → Filled p active low → (k : ℕ) → k < length low → getD low k 0 < p .tasks
   filled-only all empty k h = absurd (not-suc-le-zero h)
@@ -105,7 +102,7 @@ module _ (p : Problem) (active : ℕ → Bool) where
   filled-once : (low : List ℕ) → Filled p active low → Distinct low
   filled-once all empty = λ i j l h. absurd (not-suc-le-zero h)
   filled-once all (level i low l t f) =
-      distinct-cons i low (unassigned-is (p .tasks) low i (may-unassigned low i t) .1) (filled-once low f)
+      distinct-cons i low (unassigned-is (p .tasks) low i (test-may (unassigned (p .tasks) low) i t .isLeft) .1) (filled-once low f)
 
   -- the tasks without a level and those with one make up all
   pub filled-count : (low : List ℕ) → Filled p active low → count (p .tasks) (unassigned (p .tasks) low) + length low ≡ p .tasks
@@ -114,7 +111,7 @@ module _ (p : Problem) (active : ℕ → Bool) where
   -- ---- sound
 
   module _ (order : List ℕ) (f : Filled p active order) (long : length order ≡ p .tasks) where
-    filled-order : IsOrder (p .tasks) order
+    pub filled-order : IsOrder (p .tasks) order
     filled-order =
         record {
           only = filled-only order f;
@@ -124,59 +121,53 @@ module _ (p : Problem) (active : ℕ → Bool) where
           once = filled-once order f;
         }
 
-    pub filled-valid : Lawful p → Valid (p .tasks) (p .rules) (Passes p) active order
-    filled-valid lawful =
-        takes-valid filled-order (λ k h. lawful .indices k h .0)
-        (λ k h.
+    pub filled-each : EachMayTake (p .rules) (Passes p) active order
+    filled-each k h =
         rw (left-unassigned filled-order k h)
-        (may-takes (unassigned (p .tasks) (drop (suc k) order)) (getD order k 0) (filled-at order f k h)))
+        (test-may (unassigned (p .tasks) (drop (suc k) order)) (getD order k 0) (filled-at order f k h))
+
+    pub filled-valid : Lawful p → Valid (p .tasks) (p .rules) (Passes p) active order
+    filled-valid lawful = each-valid filled-order (lawful .indices) filled-each
 
   -- ---- complete
 
   -- where a valid order exists, some task may take the next level: of those without one, the last in that order
   module _ (lawful : Lawful p) (order : List ℕ) (v : Valid (p .tasks) (p .rules) (Passes p) active order) (low : List ℕ) where
-    abbrev leftAt : ℕ → Bool
-    leftAt r = unassigned (p .tasks) low (getD order r 0)
+    abbrev leftByRank : ℕ → Bool
+    leftByRank r = unassigned (p .tasks) low (getD order r 0)
 
-    left-at : (j : ℕ) → T (unassigned (p .tasks) low j) → (rank order j < length order) × T (leftAt (rank order j))
-    left-at j t =
+    left-by-rank : (j : ℕ) → T (unassigned (p .tasks) low j) → (rank order j < length order) × T (leftByRank (rank order j))
+    left-by-rank j t =
         let here = v .isOrder .every j (unassigned-is (p .tasks) low j t .0) in
         (here, subst (λ (i : ℕ). T (unassigned (p .tasks) low i)) (sym (getD-rank order j here)) t)
 
-    last-may : (r : ℕ) → IsGreatest (length order) leftAt r → T (mayTake p active (unassigned (p .tasks) low) (getD order r 0))
+    last-may : (r : ℕ) → IsGreatest (length order) leftByRank r → T (mayTake p active (unassigned (p .tasks) low) (getD order r 0))
     last-may r g =
-        takes-may (unassigned (p .tasks) low) i
+        let left = unassigned (p .tasks) low in
+        let i = getD order r 0 in
+        let took = valid-each (v .isOrder) v r (g .below) in
+        may-test left i
         (record {
-          waits = g .passes;
-          below = λ k h on e t. omega (arith, v .keeps k h on, last (ruleAt (p .rules) k .lower .0) t, ap (rank order) e, at);
-          meets = lawful .fewer i (without (unassigned (p .tasks) low) i) (hp order i) under (v .meets i (v .isOrder .only r (g .below)));
+          isLeft = g .passes;
+          below = λ k h on e t. took .below k h on e (early (ruleAt (p .rules) k .lower .0) t);
+          meets = lawful .fewer i (without left i) (without (leftAt order r) i)
+              (λ j h t. let still = without-still left i j t in without-other (leftAt order r) i j (still .1) (early j (still .0)))
+              (took .meets);
         })
       where
-        i : ℕ
-        i = getD order r 0
-
-        at : rank order i ≡ r
-        at = rank-getD order (v .isOrder .once) r (g .below)
-
         -- nobody without a level stands further down
-        last : (j : ℕ) → T (unassigned (p .tasks) low j) → rank order j ≤ r
-        last j t = ⊎-elim (λ l. absurd (g .last (rank order j) (left-at j t .0) l (left-at j t .1))) (λ h. h) (lt-or-le r (rank order j))
-
-        under : Subset (p .tasks) (without (unassigned (p .tasks) low) i) (hp order i)
-        under j h t =
-            let still = without-still (unassigned (p .tasks) low) i j t in
-            lt→ltb (rank order j) (rank order i)
-            (⊎-elim (λ e. absurd (still .1 (ap (λ (q : ℕ). getD order q 0) (sym e) ∙ getD-rank order j (left-at j (still .0) .0))))
-            (λ l. omega (arith, at, l))
-            (eq-or-lt-of-le (last j (still .0))))
+        early : (j : ℕ) → T (unassigned (p .tasks) low j) → T (leftAt order r j)
+        early j t =
+            le→leb (rank order j) r
+            (⊎-elim (λ l. absurd (g .last (rank order j) (left-by-rank j t .0) l (left-by-rank j t .1))) (λ h. h) (lt-or-le r (rank order j)))
 
     some-may : (i : ℕ) → T (unassigned (p .tasks) low i) → (j : ℕ) × (j < p .tasks) × T (mayTake p active (unassigned (p .tasks) low) j)
-    some-may i t = go (greatest (length order) leftAt) (greatest-is (length order) leftAt)
+    some-may i t = go (greatest (length order) leftByRank) (greatest-is (length order) leftByRank)
       where
-        go : (o : Option ℕ) → Greatest (length order) leftAt o
+        go : (o : Option ℕ) → Greatest (length order) leftByRank o
             → (j : ℕ) × (j < p .tasks) × T (mayTake p active (unassigned (p .tasks) low) j)
         go o (found r g) = (getD order r 0, v .isOrder .only r (g .below), last-may r g)
-        go o (nothing out) = absurd (out (rank order i) (left-at i t .0) (left-at i t .1))
+        go o (nothing out) = absurd (out (rank order i) (left-by-rank i t .0) (left-by-rank i t .1))
 
   -- ---- a decision
 
@@ -247,9 +238,7 @@ valid-fewer fewer v = record { isOrder = v .isOrder; keeps = λ k h on. v .keeps
 
 module _ (p : Problem) (less more : ℕ → Bool) (fewer : Subset (length (p .rules)) less more) where
   may-fewer : (left : ℕ → Bool) (i : ℕ) → T (mayTake p more left i) → T (mayTake p less left i)
-  may-fewer left i t =
-      let m = may-takes p more left i t in
-      takes-may p less left i (record { waits = m .waits; below = λ k h on. m .below k h (fewer k h on); meets = m .meets })
+  may-fewer left i t = may-test p less left i (may-other (λ i above m. m) fewer (test-may p more left i t))
 
   -- the same levels may be filled
   pub filled-fewer : (low : List ℕ) → Filled p more low → Filled p less low
@@ -268,15 +257,15 @@ pub stuck-without : (p : Problem) (active left : ℕ → Bool) (k : ℕ)
     → (T (left (ruleAt (p .rules) k .higher .0)) → T (left (ruleAt (p .rules) k .lower .0)) → ⊥)
     → Stuck p active left → Stuck p (without active k) left
 stuck-without p active left k apart stuck i h t =
-    let m = may-takes p (without active k) left i t in
+    let m = test-may p (without active k) left i t in
     stuck i h
-    (takes-may p active left i
+    (may-test p active left i
     (record {
-      waits = m .waits;
+      isLeft = m .isLeft;
       below = λ j g on e low. ⊎-elim
           (λ same.
           let at = eqb→eq k j same in
-          apart (subst (λ (q : ℕ). T (left q)) (sym e ∙ ap (λ (q : ℕ). ruleAt (p .rules) q .higher .0) (sym at)) (m .waits))
+          apart (subst (λ (q : ℕ). T (left q)) (sym e ∙ ap (λ (q : ℕ). ruleAt (p .rules) q .higher .0) (sym at)) (m .isLeft))
           (subst (λ (q : ℕ). T (left (ruleAt (p .rules) q .lower .0))) (sym at) low))
           (λ other. m .below j g
           (without-other active k j (λ q. other (subst (λ (r : ℕ). T (eqb k r)) q (eqb-refl k))) on) e low)
@@ -287,6 +276,6 @@ stuck-without p active left k apart stuck i h t =
 -- and whoever may take a level with rules may take it without
 pub may-bare : (p : Problem) (active left : ℕ → Bool) (i : ℕ) → T (mayTake p active left i) → T (mayTake (withoutRules p) noRule left i)
 may-bare p active left i t =
-    let m = may-takes p active left i t in
-    takes-may (withoutRules p) noRule left i
-    (record { waits = m .waits; below = λ k h. absurd (not-suc-le-zero h); meets = m .meets })
+    let m = test-may p active left i t in
+    may-test (withoutRules p) noRule left i
+    (record { isLeft = m .isLeft; below = λ k h. absurd (not-suc-le-zero h); meets = m .meets })

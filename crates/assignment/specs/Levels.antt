@@ -1,5 +1,5 @@
--- An order level by level: who is left without a level, and that it is valid exactly when each of its tasks may take its own
--- level. For any meaning of a deadline met. Assumes nothing.
+-- An order level by level: who is left without a level, and that with rules between its tasks it is valid exactly when each task
+-- may take its own level. For any meaning of a deadline met. Assumes nothing.
 use mathlib.Core.Path.{_≡_, refl, sym, ap, subst, _∙_, fun-ext}
 use mathlib.Core.Bool.{Bool, true, false, _&&_}
 use mathlib.Core.List.{List, [], _∷_}
@@ -12,12 +12,12 @@ use lib.ListN.{length, getD, drop}
 use lib.Seq.{drop-cons}
 use borrow.Author.Tests.{leb-false}
 use Rattle.sets.specs.Choice.{pick, refuted→false, decided, lt-or-le, same-test, and-intro, and-left, and-right}
-use Rattle.sets.specs.Bounded.{without, without-still, without-other, count, count-less, count-but, count-whole, count-some}
+use Rattle.sets.specs.Bounded.{Subset, without, without-still, without-other, count, count-less, count-but, count-whole, count-some}
 use Rattle.sets.specs.Rank.{rank, Member, Distinct, getD-rank, rank-getD, drop-rank, rank-drop, distinct-head, distinct-tail}
 use Rattle.taskset.specs.declared.Rule.{Rule}
 use Rattle.taskset.specs.Model.{ruleAt}
 use Rattle.assignment.specs.Orders.{IsOrder, hp, Valid}
-use Rattle.assignment.specs.Canonical.{leftAt, MayTake}
+use Rattle.assignment.specs.Canonical.{leftAt, MayTake, EachMayTake}
 use Rattle.assignment.specs.Audsley.{unassigned}
 
 -- ---- who has a level
@@ -70,11 +70,15 @@ module _ (n : ℕ) where
         ap (count n) (unassigned-cons low i),
       )
 
--- ---- the levels of an order
+-- ---- who may take a level
 
--- each task may take its own
-abbrev pub Takes : List Rule → (ℕ → (ℕ → Bool) → Type 0) → (ℕ → Bool) → List ℕ → Type 0
-Takes rules Meets active order = (k : ℕ) → k < length order → MayTake rules Meets active (leftAt order k) (getD order k 0)
+-- fewer rules and another test that passes too let the same tasks take it
+pub may-other : {rules : List Rule} {M N : ℕ → (ℕ → Bool) → Type 0} {more less left : ℕ → Bool} {i : ℕ}
+    → ((i : ℕ) (above : ℕ → Bool) → M i above → N i above) → Subset (length rules) less more
+    → MayTake rules M more left i → MayTake rules N less left i
+may-other change fewer m = record { isLeft = m .isLeft; below = λ k h on. m .below k h (fewer k h on); meets = change _ _ (m .meets) }
+
+-- ---- the levels of an order
 
 module _ {n : ℕ} {order : List ℕ} (is : IsOrder n order) where
   pub order-length : length order ≡ n
@@ -140,19 +144,19 @@ module _ {n : ℕ} {order : List ℕ} (is : IsOrder n order) where
   -- ---- valid, level by level
 
   module _ {rules : List Rule} {Meets : ℕ → (ℕ → Bool) → Type 0} {active : ℕ → Bool} where
-    pub valid-takes : Valid n rules Meets active order → Takes rules Meets active order
-    valid-takes v k h =
+    pub valid-each : Valid n rules Meets active order → EachMayTake rules Meets active order
+    valid-each v k h =
         let i = getD order k 0 in
         let at = rank-getD order (is .once) k h in
         record {
-          waits = le→leb (rank order i) k (omega (arith, at));
+          isLeft = le→leb (rank order i) k (omega (arith, at));
           below = λ m inside on e t.
               omega (arith, at, v .keeps m inside on, ap (rank order) e, leb→le (rank order (ruleAt rules m .lower .0)) k t);
           meets = subst (Meets i) (before-left k h) (v .meets i (is .only k h));
         }
 
-    pub takes-valid : ((m : ℕ) → m < length rules → ruleAt rules m .higher .0 < n) → Takes rules Meets active order → Valid n rules Meets active order
-    takes-valid indices takes =
+    pub each-valid : ((m : ℕ) → m < length rules → ruleAt rules m .higher .0 < n) → EachMayTake rules Meets active order → Valid n rules Meets active order
+    each-valid indices each =
         record {
           isOrder = is;
           keeps = λ m inside on.
@@ -162,10 +166,10 @@ module _ {n : ℕ} {order : List ℕ} (is : IsOrder n order) where
               ⊎-elim (λ first. first)
               (λ late.
               absurd
-              (takes (rank order u) here .below m inside on (sym (getD-rank order u here)) (le→leb (rank order l) (rank order u) late)))
+              (each (rank order u) here .below m inside on (sym (getD-rank order u here)) (le→leb (rank order l) (rank order u) late)))
               (lt-or-le (rank order u) (rank order l));
           meets = λ i h.
               let here = is .every i h in
               subst (λ (j : ℕ). Meets j (hp order j)) (getD-rank order i here)
-              (subst (Meets (getD order (rank order i) 0)) (sym (before-left (rank order i) here)) (takes (rank order i) here .meets));
+              (subst (Meets (getD order (rank order i) 0)) (sym (before-left (rank order i) here)) (each (rank order i) here .meets));
         }

@@ -21,7 +21,7 @@ use Rattle.assignment.specs.declared.Search.{Search}
 use Rattle.assignment.specs.Orders.{Valid, MeetsDeadline, ValidOrder, SomeOrder}
 use Rattle.assignment.specs.Canonical.{CanonicalOrder, GreatestOrder}
 use Rattle.assignment.specs.Audsley.{isWithin, Passes, assign, feasible, responseAt, problem, bare}
-use Rattle.assignment.specs.Levels.{valid-takes, takes-valid}
+use Rattle.assignment.specs.Levels.{valid-each, each-valid}
 use Rattle.assignment.specs.Decision.{Lawful, SomeValid, feasible-exactly, feasible-fewer}
 use Rattle.assignment.specs.CanonicalLaws.{greater-once, canonical-greatest, canonical-other, assign-canonical}
 use Rattle.assignment.specs.Search.{Ended}
@@ -54,7 +54,7 @@ valid-exactly l active order =
 pub lawful : (l : Lists) → Sound l → Lawful (problem l)
 lawful l s =
     record {
-      indices = λ k h. (s .indices k h .higher, s .indices k h .lower);
+      indices = λ k h. s .indices k h .higher;
       fewer = λ i less above sub t. go i less above sub (responseAt (l .tasks) i above) refl t;
     }
   where
@@ -82,11 +82,11 @@ module _ (l : Lists) (sound : Sound l) (active : ℕ → Bool) where
       (λ t. some-valid .0 (d .0 t), λ s. d .1 (some-valid .1 s))
 
   -- the order that it finds is the canonical one
-  pub assigned-canonical : T (feasible (problem l) active) → CanonicalOrder l active (assign (problem l) active)
+  pub feasible-canonical : T (feasible (problem l) active) → CanonicalOrder l active (assign (problem l) active)
   unfolding feasible
-  assigned-canonical t =
+  feasible-canonical t =
       canonical-other (meets-exactly (l .tasks)) (λ k h. (λ on. on, λ on. on))
-      (assign-canonical (problem l) active (lawful l sound) (eqb→eq (length (assign (problem l) active)) (length (l .tasks)) t))
+      (assign-canonical (problem l) active (eqb→eq (length (assign (problem l) active)) (length (l .tasks)) t))
 
   -- which is the greatest of the valid ones, and no other order is
   pub canonical-exactly : (order : List ℕ) → CanonicalOrder l active order ↔ GreatestOrder l active order
@@ -95,13 +95,13 @@ module _ (l : Lists) (sound : Sound l) (active : ℕ → Bool) where
       is : (o : List ℕ) → CanonicalOrder l active o → GreatestOrder l active o
       is o c =
           record {
-            valid = takes-valid (c .isOrder) (λ k h. sound .indices k h .higher) (c .takes);
-            greatest = λ other v. canonical-greatest c (v .isOrder) (valid-takes (v .isOrder) v);
+            valid = each-valid (c .isOrder) (λ k h. sound .indices k h .higher) (c .each);
+            greatest = λ other v. canonical-greatest c (v .isOrder) (valid-each (v .isOrder) v);
           }
 
       found : GreatestOrder l active order → CanonicalOrder l active order
       found g =
-          let c = assigned-canonical (feasible-order .1 (order, g .valid)) in
+          let c = feasible-canonical (feasible-order .1 (order, g .valid)) in
           let first = is (assign (problem l) active) c in
           ⊎-elim (λ e. subst (CanonicalOrder l active) e c)
           (λ more.

@@ -181,6 +181,7 @@ fn passes(rows: &[u64], left: [bool; MAX_TASKS], task: TaskIndex) -> bool
 pub fn passing(rows: &[u64], left: [bool; MAX_TASKS], given: bool) -> [bool; MAX_TASKS]
     requires { ⌜ SoundTasks (tasksIn (now rows)) ⌝ }
     ensures { λ r. ⌜ Known (bare (tasksIn (now (rows .entry)))) (marked left) (marked r) ⌝ }
+    ensures none { λ r. ⌜ (given ≡ false → marked r ≡ first 0) ⌝ }
 {
     let mut known = [false; MAX_TASKS];
     if !given {

@@ -1,7 +1,7 @@
 pub mod Listing
-pub mod Given
+pub mod Gives
 pub mod Numbers
 pub mod NumbersLaws
 pub mod Showing
-pub mod GivenLaws
+pub mod GivesLaws
 pub mod Short

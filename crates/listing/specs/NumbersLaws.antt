@@ -9,7 +9,7 @@ use lib.ListN.{length, take, drop, set, length-append}
 use lib.Seq.{length-take-le, take-at, sets-eq}
 use Rattle.sets.specs.Choice.{pick}
 use Rattle.sets.specs.Flat.{flat-snoc}
-use Rattle.lines.specs.Line.{chunks, numbersOf}
+use Rattle.lines.specs.Line.{chunks}
 use Rattle.lines.specs.LineWriting.{AllWide, wide-snoc, chunks-back}
 use Rattle.taskset.specs.Refusals.{maxRules}
 use Rattle.listing.specs.Listing.{linesBelow}

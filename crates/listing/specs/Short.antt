@@ -17,21 +17,19 @@ use Rattle.lines.specs.LineWriting.{field-long, tabbed, line-long}
 use Rattle.taskset.specs.declared.TaskIndex.{TaskIndex}
 use Rattle.taskset.specs.declared.TaskSet.{TaskSet}
 use Rattle.taskset.specs.Model.{Lists, Sound}
-use Rattle.taskset.specs.Adding.{isMade, lists}
-use Rattle.taskset.specs.Passing.{Sized, passed}
+use Rattle.taskset.specs.Adding.{lists}
+use Rattle.taskset.specs.Passing.{Sized}
 use Rattle.assignment.specs.Search.{index}
 use Rattle.verdict.specs.declared.Answer.the-variants.{Order, Core}
-use Rattle.verdict.specs.declared.Solved.{Solved}
 use Rattle.verdict.specs.declared.Verdict.{Verdict}
 use Rattle.verdict.specs.Verdict.{deciding, solving}
 use Rattle.verdict.specs.Correct.{orderGiven, Correct}
-use Rattle.verdict.specs.Solving.{solving-14}
+use Rattle.verdict.specs.Solving.{solving-cases}
 use Rattle.verdict.specs.Explained.{deciding-correct}
 use Rattle.listing.specs.Listing.{levelLine, ruleLine, linesBelow, linesFor, word, listingWith, listing}
 use Rattle.listing.specs.Listing.{Outcome, refused, shown, outcome, maxListing}
 use Rattle.listing.specs.NumbersLaws.{lines-few}
-use Rattle.listing.specs.Showing.{solving-verdict}
-use Rattle.listing.specs.GivenLaws.{Kind, refusal, verdict, decided-kind}
+use Rattle.listing.specs.GivesLaws.{RefusedOrListed, refusal, verdict, decided-either}
 
 -- ---- lines
 
@@ -139,9 +137,9 @@ not-shown o k bytes e f = let z : _≡_ {A = ℕ} 0 1 = cc in omega arith
 
 -- so on lists that adding has taken, and of a set
 pub deciding-short : (l : Lists) → Sound l → (bytes : List ℕ) → outcome l (deciding l) ≡ shown bytes → length bytes ≤ maxListing
-deciding-short l sound bytes = go (outcome l (deciding l)) (decided-kind l sound)
+deciding-short l sound bytes = go (outcome l (deciding l)) (decided-either l sound)
   where
-    go : (o : Outcome) → Kind l o → o ≡ shown bytes → length bytes ≤ maxListing
+    go : (o : Outcome) → RefusedOrListed l o → o ≡ shown bytes → length bytes ≤ maxListing
     go o (refusal k some few) e = absurd (not-shown o k bytes refl e)
     go o (verdict some) e =
         let ok = deciding-correct l sound some in
@@ -150,9 +148,6 @@ deciding-short l sound bytes = go (outcome l (deciding l)) (decided-kind l sound
 
 pub listing-short : (s : TaskSet) → Sized s → (bytes : List ℕ) → outcome (lists s) (solving s .verdict) ≡ shown bytes
     → length bytes ≤ maxListing
-listing-short s size bytes e = go (isMade s) refl
-  where
-    go : (b : Bool) → isMade s ≡ b → length bytes ≤ maxListing
-    go true made =
-        deciding-short (lists s) (passed s size made .sound) bytes (ap (outcome (lists s)) (sym (solving-verdict s made)) ∙ e)
-    go false made = absurd (not-shown _ 14 bytes (ap (λ (r : Solved). outcome (lists s) (r .verdict)) (sym (solving-14 s made))) e)
+listing-short s size bytes =
+    solving-cases s size (λ v. outcome (lists s) v ≡ shown bytes → length bytes ≤ maxListing) (λ e. absurd (not-shown _ 14 bytes refl e))
+    (λ sound. deciding-short (lists s) sound bytes)

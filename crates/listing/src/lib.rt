@@ -10,7 +10,7 @@ ghost use Rattle.taskset.specs.Adding.{lists};
 ghost use Rattle.taskset.specs.Words.{tasksIn, rulesIn, listsIn};
 ghost use Rattle.verdict.specs.Verdict.{solving};
 ghost use Rattle.listing.specs.Listing.{ruleLine, linesBelow, listingWith, outcome, shown, fitted, shownAs, listed, bufferAfter};
-ghost use Rattle.listing.specs.Given.{Gives};
+ghost use Rattle.listing.specs.Gives.{Gives};
 ghost use Rattle.listing.specs.Numbers.{width, maxNumbers, HasLines, withNumbers, levelLines};
 use lines::line_size;
 use lines::lines_size;

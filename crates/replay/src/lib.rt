@@ -34,7 +34,7 @@ fn make(set: TaskSet, call: &[u64]) -> TaskSet
 pub fn replay(calls: &[u64]) -> Solved
     ensures { λ r. ⌜ r ≡ solving (run freshSet (callsIn (now (calls .entry)))) ⌝ }
     ensures demand3 { λ r. ⌜ Demand3 (callsIn (now (calls .entry))) (r .verdict) ⌝ }
-    ensures canonical { λ r. ⌜ OneOrder (heard noLists (callsIn (now (calls .entry)))) (r .verdict) ⌝ }
+    ensures oneOrder { λ r. ⌜ OneOrder (heard noLists (callsIn (now (calls .entry)))) (r .verdict) ⌝ }
 {
     let n = calls.len() / CALL_WORDS;
     let mut set = TaskSet::fresh();

@@ -26,7 +26,7 @@ use Rattle.assignment.specs.Audsley.{isWithin, assign, feasible, responseAt, pr
 use Rattle.assignment.specs.Decision.{valid-fewer}
 use Rattle.assignment.specs.Preemptive.{less-feasible, meets-exactly, feasible-order}
 use Rattle.assignment.specs.Search.{index, time}
-use Rattle.verdict.specs.declared.Answer.the-variants.{Order, Core}
+use Rattle.verdict.specs.declared.Answer.the-variants.{Refused, Order, Core}
 use Rattle.verdict.specs.declared.Verdict.{Verdict}
 use Rattle.verdict.specs.declared.Solved.{Solved}
 use Rattle.verdict.specs.Core.{coreOf}
@@ -35,8 +35,12 @@ use Rattle.verdict.specs.Verdict.{ordered, cored, responsesIn, verdictBy
 use Rattle.verdict.specs.Correct.{orderGiven, coreGiven, Correct, Explains}
 use Rattle.verdict.specs.Solving.{assign-valid, deciding-on, solving-made}
 
+-- an order is no core and no refusal
 pub order-not-core : Order ≡ Core → ⊥
 order-not-core e = let z : _≡_ {A = ℕ} 0 1 = cc in omega arith
+
+pub order-not-refused : (k : ℕ) → Refused k ≡ Order → ⊥
+order-not-refused k e = let z : _≡_ {A = ℕ} 0 1 = cc in omega arith
 
 unindex : (xs : List ℕ) → map (λ (t : TaskIndex). t .0) (map index xs) ≡ xs
 unindex [] = refl
@@ -73,8 +77,8 @@ module _ (l : Lists) (sound : Sound l) where
     unfolding feasible
     whole = eqb→eq (length order) n yes
 
-    pub handed : orderGiven l answer ≡ order
-    handed =
+    pub order-handed : orderGiven l answer ≡ order
+    order-handed =
         let long : n ≡ length (map index order) = sym whole ∙ sym (length-map order index) in
         ap (λ (k : ℕ). map (λ (t : TaskIndex). t .0) (take k (pad maxTasks (index 0) (map index order)))) long
         ∙ ap (map (λ (t : TaskIndex). t .0)) (take-pad maxTasks (index 0) (map index order))
@@ -106,7 +110,7 @@ module _ (l : Lists) (sound : Sound l) where
         let time-at =
         pad-used maxTasks 0 (responsesIn l order) k (omega (arith, here, length-map order (λ j. time (own j))))
         ∙ map-at (λ j. time (own j)) order k 0 0 here in
-        subst (λ (o : List ℕ). SaysAt o (getD o k 0) (getD (answer .responses) k 0)) (sym handed)
+        subst (λ (o : List ℕ). SaysAt o (getD o k 0) (getD (answer .responses) k 0)) (sym order-handed)
         (subst (λ (r : ℕ). SaysAt order i r) (sym time-at)
         (says i (meets-exactly (l .tasks) i (hp order i) .1 (valid .meets i (valid .isOrder .only k here)))))
 
@@ -117,7 +121,7 @@ module _ (l : Lists) (sound : Sound l) where
           order-alone = λ e. refl;
           core-alone = λ e. absurd (order-not-core e);
           refuses = (λ e. absurd (order-not-core e), λ none. absurd (none (order, every order valid)));
-          valid = λ e. subst (ValidOrder l everyRule) (sym handed) (every order valid);
+          valid = λ e. subst (ValidOrder l everyRule) (sym order-handed) (every order valid);
           rules = λ e. absurd (order-not-core e);
           clash = λ e. absurd (order-not-core e);
           needed = λ e. absurd (order-not-core e);

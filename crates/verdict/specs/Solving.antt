@@ -1,5 +1,5 @@
 -- What solving hands over, one law for each way it ends. Assumes nothing.
-use mathlib.Core.Path.{_≡_, refl, sym, ap, ap₂, _∙_}
+use mathlib.Core.Path.{_≡_, refl, sym, ap, ap₂, subst, _∙_}
 use mathlib.Core.Bool.{Bool, true, false}
 use mathlib.Core.List.{List, [], _∷_, _++_, map}
 use Prim.Native.Nat.{ℕ, zero, suc, _-_, _<_}
@@ -15,6 +15,7 @@ use Rattle.taskset.specs.declared.TaskSet.{TaskSet}
 use Rattle.taskset.specs.Refusals.{maxTasks, maxRules}
 use Rattle.taskset.specs.Model.{Lists, Sound}
 use Rattle.taskset.specs.Adding.{isMade, lists}
+use Rattle.taskset.specs.Passing.{Sized, passed}
 use Rattle.assignment.specs.declared.Search.{Search}
 use Rattle.assignment.specs.Orders.{hp, ValidOrder}
 use Rattle.assignment.specs.Audsley.{unassigned, assign, feasible, responseAt, problem}
@@ -23,6 +24,8 @@ use Rattle.assignment.specs.Decision.{filled-count, assign-filled, filled-valid
 use Rattle.assignment.specs.Preemptive.{lawful, valid-exactly}
 use Rattle.assignment.specs.Search.{index, time, responses, lowest, HoldsLevels}
 use Rattle.verdict.specs.declared.Answer.the-variants.{Order, Core}
+use Rattle.verdict.specs.declared.Solved.{Solved}
+use Rattle.verdict.specs.declared.Verdict.{Verdict}
 use Rattle.verdict.specs.Core.{coreOf}
 use Rattle.verdict.specs.CoreLaws.{core-beyond}
 use Rattle.verdict.specs.Verdict.{refused, responsesIn, verdictBy, verdictOn, deciding, solving}
@@ -44,6 +47,15 @@ solving-14 s e = rw e
 pub solving-made : (s : TaskSet) → isMade s ≡ true → record { verdict = deciding (lists s); set = s } ≡ solving s
 unfolding solving
 solving-made s e = rw e
+
+-- so what holds of refusal 14, and of the verdict on the lists of a set that calls make, holds of any set's
+pub solving-cases : (s : TaskSet) → Sized s → (P : Verdict → Type 0) → P (refused 14) → (Sound (lists s) → P (deciding (lists s)))
+    → P (solving s .verdict)
+solving-cases s size P unmade made = go (isMade s) refl
+  where
+    go : (b : Bool) → isMade s ≡ b → P (solving s .verdict)
+    go false e = subst (λ (r : Solved). P (r .verdict)) (solving-14 s e) unmade
+    go true e = subst (λ (r : Solved). P (r .verdict)) (solving-made s e) (made (passed s size e .sound))
 
 -- ---- an order
 

@@ -190,7 +190,7 @@ pub fn decide(rows: &[u64], rules: &[u64]) -> Verdict
     requires { ⌜ Sound (listsIn (now rows) (now rules)) ⌝ }
     ensures { λ r. ⌜ r ≡ deciding (listsIn (now (rows .entry)) (now (rules .entry))) ⌝ }
     ensures says { λ r. ⌜ (1 ≤ length (tasksIn (now (rows .entry))) → Correct (listsIn (now (rows .entry)) (now (rules .entry))) r) ⌝ }
-    ensures canonical { λ r. ⌜ OneOrder (listsIn (now (rows .entry)) (now (rules .entry))) r ⌝ }
+    ensures oneOrder { λ r. ⌜ OneOrder (listsIn (now (rows .entry)) (now (rules .entry))) r ⌝ }
 {
     if rows.len() < TASK_WORDS {
         return refused(13);
@@ -220,7 +220,7 @@ pub fn decide(rows: &[u64], rules: &[u64]) -> Verdict
 pub fn solve(set: TaskSet) -> Solved
     ensures { λ r. ⌜ r ≡ solving set ⌝ }
     ensures says { λ r. ⌜ Explains set r ⌝ }
-    ensures canonical { λ r. ⌜ OneOrder (lists set) (r .verdict) ⌝ }
+    ensures oneOrder { λ r. ⌜ OneOrder (lists set) (r .verdict) ⌝ }
 {
     if !set.is_made() {
         return Solved {

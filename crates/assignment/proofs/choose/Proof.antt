@@ -1,10 +1,11 @@
--- `assignment::choose` meets its contract: no task from i on may take the level. Assumes nothing.
+-- `assignment::choose` meets its contract: none of the tasks tried so far may take the level. Assumes nothing.
 use mathlib.Core.Path.{_≡_, sym, ap, _∙_}
+use mathlib.Core.Bool.{true}
 use Prim.Native.Nat.{ℕ, _-_, _/_, _≤_}
 use native.Mathlib.Omega.{arith}
 use borrow.Author.Needs.{needs}
 use lib.ListN.{length}
-use Rattle.sets.specs.Bounded.{greatest}
+use Rattle.sets.specs.Bounded.{without, greatest}
 use Rattle.sets.specs.Marks.{marked}
 use Rattle.taskset.specs.Words.{taskSize, tasksIn}
 use Rattle.taskset.specs.WordsLaws.{tasks-length}
@@ -29,6 +30,11 @@ test s = responseAt (tasksIn (s .args .rows .now))
 
 abbrev candidates : tie.Start Inv-loop μ-loop → ℕ → Response
 candidates s = candidate (test s) (marked (s .args .t2)) (marked (s .args .left))
+
+-- the response of a ready task
+of-ready : (s : tie.Start Inv-loop μ-loop) (j : ℕ) → marked (s .args .t2) j ≡ true → {a : Response}
+    → a ≡ test s j (without (marked (s .args .left)) j) → candidates s j ≡ a
+of-ready s = candidate-ready (test s) (marked (s .args .t2)) (marked (s .args .left))
 
 -- where the turn of a response began
 abbrev start : tie.After-level-response Inv-loop μ-loop → tie.Start Inv-loop μ-loop
@@ -67,8 +73,7 @@ returns c =
     let at = asked .before .before .before .loop in
     let s = start asked in
     chosen-takes _ (candidates s) _ _ (omega arith) (at .inv .1) _
-    (candidate-ready (test s) (marked (s .args .t2)) (marked (s .args .left)) _ (asked .before .if1 .taken) (asked .level-response .ensures)
-    ∙ told .response .given .1)
+    (of-ready s _ (asked .before .if1 .taken) (asked .level-response .ensures) ∙ told .response .given .1)
 
 enum-told : tie.Need-enum-told Inv-loop μ-loop
 enum-told c = search needs
@@ -81,9 +86,7 @@ loop-again c =
     let asked = c .before .before in
     let at = asked .before .before .before .loop in
     let s = start asked in
-    let late =
-    candidate-ready (test s) (marked (s .args .t2)) (marked (s .args .left)) _ (asked .before .if1 .taken) (asked .level-response .ensures)
-    ∙ c .enum-told .given .1 in
+    let late = of-ready s _ (asked .before .if1 .taken) (asked .level-response .ensures) ∙ c .enum-told .given .1 in
     (omega arith, chosen-next _ (candidates s) _ _ (omega arith) (at .inv .1) late)
 
 loop-less-2 : tie.Need-loop-less-2 Inv-loop μ-loop

@@ -1,12 +1,13 @@
 -- `assignment::passing` meets its contract: what is marked so far is known to pass. Assumes nothing.
 use mathlib.Core.Path.{_≡_, refl, sym, subst, _∙_}
-use mathlib.Core.Bool.{Bool}
+use mathlib.Core.Bool.{Bool, true≢false}
 use mathlib.Core.List.{List}
 use mathlib.Core.Logic.{⊎-elim}
 use Prim.Native.Nat.{ℕ, _-_, _≤_, _<_}
 use native.Mathlib.Omega.{arith}
+use borrow.Author.Tests.{not-false}
 use lib.ListN.{length, length-set}
-use Rattle.sets.specs.Marks.{marked}
+use Rattle.sets.specs.Marks.{marked, marked-first-none}
 use Rattle.taskset.specs.Refusals.{maxTasks}
 use Rattle.taskset.specs.Words.{tasksIn}
 use Rattle.taskset.specs.WordsLaws.{tasks-count}
@@ -46,7 +47,7 @@ marks c =
     (c .if2 .came)
 
 returns : tie.Need-returns Inv-loop μ-loop
-returns c = known-none _ maxTasks _
+returns c = (known-none _ maxTasks _, λ off. marked-first-none maxTasks)
 
 loop-holds : tie.Need-loop-holds Inv-loop μ-loop
 loop-holds c = (omega arith, (refl, known-none _ maxTasks _))
@@ -70,7 +71,7 @@ loop-again : tie.Need-loop-again Inv-loop μ-loop
 loop-again c = (omega arith, marks c)
 
 returns-2 : tie.Need-returns-2 Inv-loop μ-loop
-returns-2 c = c .before .loop .inv .1 .1
+returns-2 c = (c .before .loop .inv .1 .1, λ off. absurd (true≢false (sym (not-false _ (c .before .before .if1 .left)) ∙ off)))
 
 pub passing-spec : {M : Type 1} → statement M
 passing-spec =

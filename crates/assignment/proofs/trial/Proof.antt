@@ -28,7 +28,7 @@ fill-levels-requires c κs =
       s .pre,
       (
         searched-fresh _ _ few _ (count s .0) _ (marks .first .ensures),
-        record { known = λ on. c .passing .ensures; other = λ on. searched-fresh _ _ few _ (count s .0) _ (marks .first .ensures) },
+        record { known = λ on. c .passing .ensures .0; other = λ on. searched-fresh _ _ few _ (count s .0) _ (marks .first .ensures) },
       ),
     )
 

@@ -1,12 +1,8 @@
 -- `listing::level_lines` meets its contract: the lines of the levels below k stand in the front. Assumes nothing.
-use mathlib.Core.Path.{_≡_, refl, sym, ap, subst, _∙_}
-use mathlib.Core.Bool.{true}
-use mathlib.Core.List.{List, _∷_, []}
-use Prim.Native.Nat.{ℕ, _+_, _-_, _*_, _≤_}
+use mathlib.Core.Path.{_≡_, refl, sym, subst, _∙_}
+use Prim.Native.Nat.{_+_, _-_, _*_, _≤_}
 use native.Mathlib.Omega.{arith}
-use borrow.Author.Needs.{needs}
-use lib.ListN.{length, getD}
-use Rattle.assignment.specs.Search.{index}
+use lib.ListN.{length}
 use Rattle.listing.specs.Numbers.{width, HasLines, levelLines}
 use Rattle.listing.specs.NumbersLaws.{has-none, has-in, lines-length-all}
 use Rattle.listing.proofs.level_lines.Statement.{statement}

@@ -16,7 +16,7 @@ use Rattle.taskset.specs.Adding.{isMade}
 use Rattle.taskset.specs.Passing.{Sized, Passed, passed, passed-few}
 use Rattle.taskset.specs.Words.{taskSize, ruleSize, listsIn}
 use Rattle.listing.specs.Showing.{lists-14, lists-made}
-use Rattle.listing.specs.GivenLaws.{list-gives}
+use Rattle.listing.specs.GivesLaws.{list-gives}
 use Rattle.listing.proofs.list.Statement.{statement}
 use Rattle.listing.proofs.list.Tie as tie
 

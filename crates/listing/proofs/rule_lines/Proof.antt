@@ -1,10 +1,9 @@
 -- `listing::rule_lines` meets its contract: the lines of the rules below k that are in the core stand in the front. Assumes nothing.
-use mathlib.Core.Path.{_≡_, refl, sym, ap, subst, _∙_}
+use mathlib.Core.Path.{_≡_, refl, ap, subst, _∙_}
 use mathlib.Core.Logic.{⊎-elim}
 use mathlib.Core.List.{List}
 use Prim.Native.Nat.{ℕ, _+_, _-_, _*_, _≤_, _<_}
 use native.Mathlib.Omega.{arith}
-use borrow.Author.Needs.{needs}
 use lib.ListN.{length}
 use Rattle.sets.specs.Marks.{marked}
 use Rattle.taskset.specs.declared.Rule.{Rule}
@@ -13,7 +12,7 @@ use Rattle.taskset.specs.Model.{ruleAt}
 use Rattle.taskset.specs.Words.{rulesIn}
 use Rattle.taskset.specs.WordsLaws.{rules-length}
 use Rattle.listing.specs.Listing.{ruleLine, linesBelow}
-use Rattle.listing.specs.Numbers.{width, maxNumbers, HasLines, withNumbers}
+use Rattle.listing.specs.Numbers.{width, maxNumbers, HasLines}
 use Rattle.listing.specs.NumbersLaws.{lines-few, has-none, has-in, has-out}
 use Rattle.listing.proofs.rule_lines.Statement.{statement}
 use Rattle.listing.proofs.rule_lines.Tie as tie

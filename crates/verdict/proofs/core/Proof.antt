@@ -39,7 +39,7 @@ fill-levels-requires c κs =
       s .pre .0,
       (
         none-searched (given s) (lawful _ (s .pre .0)) maxRules _ _ stuck,
-        record { known = λ on. c .passing .ensures; other = λ on. searched-bare (given s) _ _ stuck },
+        record { known = λ on. c .passing .ensures .0; other = λ on. searched-bare (given s) _ _ stuck },
       ),
     )
 
@@ -53,7 +53,7 @@ cut-down-requires c κs =
           long = search needs;
           stuck = s .pre .1 .1 .0;
           unfilled = s .pre .1 .1 .1;
-          known = bare .before .passing .ensures;
+          known = bare .before .passing .ensures .0;
           other = searched-bare (given s) _ _ (bare .fill-levels .ensures .0 .searched);
         },
         s .pre .1 .0,

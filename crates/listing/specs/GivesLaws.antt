@@ -11,49 +11,57 @@ use Rattle.sets.specs.Choice.{pick, lt-or-le}
 use Rattle.sets.specs.Onto.{onto}
 use Rattle.taskset.specs.declared.TaskSet.{TaskSet}
 use Rattle.taskset.specs.Model.{Lists, Sound}
-use Rattle.taskset.specs.Adding.{isMade, lists}
-use Rattle.taskset.specs.Passing.{Sized, passed}
-use Rattle.verdict.specs.declared.Solved.{Solved}
+use Rattle.taskset.specs.Adding.{lists}
+use Rattle.taskset.specs.Passing.{Sized}
 use Rattle.verdict.specs.declared.Verdict.{Verdict}
 use Rattle.verdict.specs.Verdict.{deciding, solving}
-use Rattle.verdict.specs.Solving.{deciding-13, solving-14}
+use Rattle.verdict.specs.Solving.{deciding-13, solving-cases}
 use Rattle.verdict.specs.Explained.{deciding-correct}
 use Rattle.verdict.specs.OneOrderLaws.{deciding-one}
 use Rattle.listing.specs.declared.Shown.{Shown}
 use Rattle.listing.specs.declared.Listed.{Listed}
 use Rattle.listing.specs.Listing.{listing, Outcome, refused, shown, outcome, fitted, shownAs, listed, bufferAfter}
-use Rattle.listing.specs.Given.{Gives}
-use Rattle.listing.specs.Showing.{outcome-shown, solving-verdict, ListsAs}
+use Rattle.listing.specs.Gives.{Gives}
+use Rattle.listing.specs.Showing.{outcome-shown, ListsAs}
 
 module _ (l : Lists) where
   abbrev HasTasks : Type 0
   HasTasks = 1 ≤ length (l .tasks)
 
-  pub data Kind : Outcome → Type 0 where
-    refusal : (k : ℕ) → 1 ≤ k → k < 100 → Kind (refused k)
-    verdict : HasTasks → Kind (shown (listing l (deciding l)))
+  pub data RefusedOrListed : Outcome → Type 0 where
+    refusal : (k : ℕ) → 1 ≤ k → k < 100 → RefusedOrListed (refused k)
+    verdict : HasTasks → RefusedOrListed (shown (listing l (deciding l)))
 
   -- in a buffer it stays so
-  pub fitted-kind : (room : ℕ) (o : Outcome) → Kind o → Kind (fitted room o)
-  fitted-kind room o (refusal k some few) = refusal k some few
-  fitted-kind room o (verdict some) = go (leb (length (listing l (deciding l))) room)
+  pub fitted-either : (room : ℕ) (o : Outcome) → RefusedOrListed o → RefusedOrListed (fitted room o)
+  fitted-either room o (refusal k some few) = refusal k some few
+  fitted-either room o (verdict some) = go (leb (length (listing l (deciding l))) room)
     where
-      go : (b : Bool) → Kind (pick b (shown (listing l (deciding l))) (refused 9))
+      go : (b : Bool) → RefusedOrListed (pick b (shown (listing l (deciding l))) (refused 9))
       go true = verdict some
       go false = refusal 9 (omega arith) (omega arith)
 
   module _ (sound : Sound l) where
-    pub decided-kind : Kind (outcome l (deciding l))
-    decided-kind = go (lt-or-le (length (l .tasks)) 1)
+    pub decided-shown : HasTasks → outcome l (deciding l) ≡ shown (listing l (deciding l))
+    decided-shown some = outcome-shown l (deciding l) (deciding-correct l sound some .one)
+
+    pub decided-either : RefusedOrListed (outcome l (deciding l))
+    decided-either = go (lt-or-le (length (l .tasks)) 1)
       where
-        go : (length (l .tasks) < 1) ⊎ HasTasks → Kind (outcome l (deciding l))
-        go (inl none) = subst Kind (ap (outcome l) (deciding-13 l (omega arith))) (refusal 13 (omega arith) (omega arith))
-        go (inr some) = subst Kind (sym (outcome-shown l (deciding l) (deciding-correct l sound some .one))) (verdict some)
+        go : (length (l .tasks) < 1) ⊎ HasTasks → RefusedOrListed (outcome l (deciding l))
+        go (inl none) = subst RefusedOrListed (ap (outcome l) (deciding-13 l (omega arith))) (refusal 13 (omega arith) (omega arith))
+        go (inr some) = subst RefusedOrListed (sym (decided-shown some)) (verdict some)
 
     pub gives : HasTasks → (was : List ℕ) → let bytes = listing l (deciding l) in Gives l (deciding l) (length bytes) was (onto bytes was)
     gives some was = record { size = refl; bytes = refl; correct = deciding-correct l sound some; oneOrder = deciding-one l sound }
 
--- so does listing a set, where it is not refused
+    -- so does showing it, where nothing is refused
+    pub either-gives : (o : Outcome) → RefusedOrListed o → (was : List ℕ) (r : Shown) (is : List ℕ) → r ≡ shownAs o → is ≡ bufferAfter o was
+        → r .refusal ≡ 0 → Gives l (deciding l) (r .count) was is
+    either-gives o (refusal k some few) was r is e f zero = absurd (omega (arith, zero, ap (λ (q : Shown). q .refusal) e))
+    either-gives o (verdict some) was r is e f zero = rw (e, f) (gives some was)
+
+-- and listing a set
 module _ (s : TaskSet) (size : Sized s) (was : List ℕ) (r : Shown) (is : List ℕ) where
   -- with this verdict
   abbrev ListGives : Verdict → Type 0
@@ -61,22 +69,10 @@ module _ (s : TaskSet) (size : Sized s) (was : List ℕ) (r : Shown) (is : List 
       let o = fitted (length was) (outcome (lists s) v) in
       r ≡ shownAs o → is ≡ bufferAfter o was → r .refusal ≡ 0 → Gives (lists s) v (r .count) was is
 
-  by-kind : Sound (lists s) → (o : Outcome) → Kind (lists s) o → r ≡ shownAs o → is ≡ bufferAfter o was → r .refusal ≡ 0
-      → Gives (lists s) (deciding (lists s)) (r .count) was is
-  by-kind sound o (refusal k some few) e f zero = absurd (omega (arith, zero, ap (λ (q : Shown). q .refusal) e))
-  by-kind sound o (verdict some) e f zero = rw (e, f) (gives (lists s) sound some was)
-
   of-set : ListGives (solving s .verdict)
-  of-set = go (isMade s) refl
-    where
-      go : (b : Bool) → isMade s ≡ b → ListGives (solving s .verdict)
-      go false unmade =
-          subst (λ (q : Solved). ListGives (q .verdict)) (solving-14 s unmade)
-          (λ e f zero. absurd (omega (arith, zero, ap (λ (q : Shown). q .refusal) e)))
-      go true made =
-          let sound = passed s size made .sound in
-          subst ListGives (sym (solving-verdict s made))
-          (by-kind sound _ (fitted-kind (lists s) (length was) _ (decided-kind (lists s) sound)))
+  of-set =
+      solving-cases s size ListGives (λ e f zero. absurd (omega (arith, zero, ap (λ (q : Shown). q .refusal) e)))
+      (λ sound. either-gives (lists s) sound _ (fitted-either (lists s) (length was) _ (decided-either (lists s) sound)) was r is)
 
   pub list-gives : ListsAs s was r is → let o = fitted (length was) (outcome (lists s) (solving s .verdict)) in
       (record { shown = r; set = s } ≡ listed s o)

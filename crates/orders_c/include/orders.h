@@ -16,13 +16,14 @@
  *
  *     order  count         then one line for each level, highest first: level, place, response
  *
- * One text has one order. Its levels are filled from the lowest upward. A task
- * may take a level when every task that a rule puts below it has one; of the
- * tasks that may and that meet their deadline with every task still without a
- * level above them, the one with the greatest place takes it.
+ * Where there are several such orders, it is always this one: levels are filled
+ * from the lowest upward. A task may take a level when every task that a rule
+ * puts below it has one; of the tasks that may and that meet their deadline
+ * with every task still without a level above them, the one with the greatest
+ * place takes it.
  *
- * Where no such order exists, the listing is a core: rules under which there is
- * none, while with any one of them taken out there is one:
+ * Where there is no such order, the listing is a core: rules under which there
+ * is none, while with any one of them taken out there is one:
  *
  *     core  count          then one line for each rule: rule place, u, l
  *

@@ -31,7 +31,7 @@ pub record MayTake (rules : List Rule) (Meets : ℕ → (ℕ → Bool) → Type 
 abbrev pub EachMayTake : List Rule → (ℕ → (ℕ → Bool) → Type 0) → (ℕ → Bool) → List ℕ → Type 0
 EachMayTake rules Meets active order = (k : ℕ) → k < length order → MayTake rules Meets active (leftAt order k) (getD order k 0)
 
--- and no task of a greater index may
+-- levels filled from the lowest upward: at each stands the task of the greatest index (place) that may take it
 pub record Canonical (n : ℕ) (rules : List Rule) (Meets : ℕ → (ℕ → Bool) → Type 0) (active : ℕ → Bool) (order : List ℕ) : Type 0 where
   pub isOrder : IsOrder n order
   pub each : EachMayTake rules Meets active order

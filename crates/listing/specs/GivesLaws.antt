@@ -28,6 +28,7 @@ module _ (l : Lists) where
   abbrev HasTasks : Type 0
   HasTasks = 1 ≤ length (l .tasks)
 
+  -- what an outcome about these lists is
   pub data RefusedOrListed : Outcome → Type 0 where
     refusal : (k : ℕ) → 1 ≤ k → k < 100 → RefusedOrListed (refused k)
     verdict : HasTasks → RefusedOrListed (shown (listing l (deciding l)))
@@ -52,6 +53,7 @@ module _ (l : Lists) where
         go (inl none) = subst RefusedOrListed (ap (outcome l) (deciding-13 l (omega arith))) (refusal 13 (omega arith) (omega arith))
         go (inr some) = subst RefusedOrListed (sym (decided-shown some)) (verdict some)
 
+    -- the listing gives what it should
     pub gives : HasTasks → (was : List ℕ) → let bytes = listing l (deciding l) in Gives l (deciding l) (length bytes) was (onto bytes was)
     gives some was = record { size = refl; bytes = refl; correct = deciding-correct l sound some; oneOrder = deciding-one l sound }
 

@@ -43,35 +43,35 @@ greater-once {a} {b} g h =
 
 module _ {n : ℕ} {rules : List Rule} {Meets : ℕ → (ℕ → Bool) → Type 0} {active : ℕ → Bool} where
   -- an order whose tasks may take their levels is the canonical one, or less
-  module _ {order other : List ℕ} (c : Canonical n rules Meets active order) (is : IsOrder n other) (each : EachMayTake rules Meets active other)
-    where
-      abbrev From : ℕ → Type 0
-      From k = (drop k other ≡ drop k order) ⊎ Greater order other
+  module _ {order other : List ℕ} (c : Canonical n rules Meets active order) (is : IsOrder n other)
+      (each : EachMayTake rules Meets active other) where
+    abbrev From : ℕ → Type 0
+    From k = (drop k other ≡ drop k order) ⊎ Greater order other
 
-      long : length other ≡ length order
-      long = order-length is ∙ sym (order-length (c .isOrder))
+    long : length other ≡ length order
+    long = order-length is ∙ sym (order-length (c .isOrder))
 
-      -- one level up: who takes it there may take it here
-      up : (k : ℕ) → k < length order → drop (suc k) other ≡ drop (suc k) order → From k
-      up k h e =
-          let left : leftAt other k ≡ leftAt order k =
-          left-unassigned is k (omega (arith, long)) ∙ ap (unassigned n) e ∙ sym (left-unassigned (c .isOrder) k h) in
-          let may = subst (λ (l : ℕ → Bool). MayTake rules Meets active l (getD other k 0)) left (each k (omega (arith, long))) in
-          ⊎-elim
-          (λ same.
-          inl (drop-cons other k 0 (omega (arith, long)) ∙ ap₂ (λ (x : ℕ) (xs : List ℕ). x ∷ xs) same e ∙ sym (drop-cons order k 0 h)))
-          (λ less. inr (record { level = k; inside = (h, omega (arith, long)); same = sym e; there = less }))
-          (eq-or-lt-of-le (c .greatest k h (getD other k 0) may))
+    -- one level up: who takes it there may take it here
+    up : (k : ℕ) → k < length order → drop (suc k) other ≡ drop (suc k) order → From k
+    up k h e =
+        let left : leftAt other k ≡ leftAt order k =
+        left-unassigned is k (omega (arith, long)) ∙ ap (unassigned n) e ∙ sym (left-unassigned (c .isOrder) k h) in
+        let may = subst (λ (l : ℕ → Bool). MayTake rules Meets active l (getD other k 0)) left (each k (omega (arith, long))) in
+        ⊎-elim
+        (λ same.
+        inl (drop-cons other k 0 (omega (arith, long)) ∙ ap₂ (λ (x : ℕ) (xs : List ℕ). x ∷ xs) same e ∙ sym (drop-cons order k 0 h)))
+        (λ less. inr (record { level = k; inside = (h, omega (arith, long)); same = sym e; there = less }))
+        (eq-or-lt-of-le (c .greatest k h (getD other k 0) may))
 
-      upward : (k : ℕ) → k ≤ length order → From k → From 0
-      upward zero h from = from
-      upward (suc k) h (inl e) = upward k (omega arith) (up k h e)
-      upward (suc k) h (inr g) = inr g
+    upward : (k : ℕ) → k ≤ length order → From k → From 0
+    upward zero h from = from
+    upward (suc k) h (inl e) = upward k (omega arith) (up k h e)
+    upward (suc k) h (inr g) = inr g
 
-      pub canonical-greatest : (other ≡ order) ⊎ Greater order other
-      canonical-greatest =
-          upward (length order) (omega arith)
-          (inl (ap (λ (k : ℕ). drop k other) (sym long) ∙ drop-length other ∙ sym (drop-length order)))
+    pub canonical-greatest : (other ≡ order) ⊎ Greater order other
+    canonical-greatest =
+        upward (length order) (omega arith)
+        (inl (ap (λ (k : ℕ). drop k other) (sym long) ∙ drop-length other ∙ sym (drop-length order)))
 
   -- so there is one such order at most
   pub canonical-unique : {one other : List ℕ} → Canonical n rules Meets active one → Canonical n rules Meets active other → one ≡ other

@@ -26,7 +26,7 @@ use Rattle.assignment.specs.Audsley.{fill, assign, feasible, Filled, emp
 use Rattle.assignment.specs.Levels.{unassigned-of, unassigned-is, assigned, levels-count, may-other}
 use Rattle.assignment.specs.Levels.{left-unassigned, valid-each, each-valid}
 
--- what the argument asks of a problem: rules for its tasks, and a test that fewer tasks above can't break
+-- what the argument asks of a problem: the higher task of a rule is one of its tasks, and fewer tasks above can't break the test
 pub record Lawful (p : Problem) : Type 0 where
   pub indices : (k : ℕ) → k < length (p .rules) → ruleAt (p .rules) k .higher .0 < p .tasks
   pub fewer : (i : ℕ) (less above : ℕ → Bool) → Subset (p .tasks) less above → T (passes p i above) → T (passes p i less)

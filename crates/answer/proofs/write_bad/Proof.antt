@@ -1,5 +1,6 @@
 -- `answer::write_bad` meets its contract: the word and two numbers of at most 20 digits. Assumes nothing.
 use mathlib.Core.Path.{refl}
+use native.Mathlib.Nat.{le-trans}
 use native.Mathlib.Omega.{arith}
 use borrow.Author.Needs.{needs}
 use Rattle.answer.specs.Answering.{bad-short}
@@ -15,8 +16,7 @@ slice-aggregate-put-line-2 c = refl
 put-line-requires : tie.Need-put-line-requires
 put-line-requires c κs =
     let s = c .before .before .before .before in
-    let short = bad-short (s .args .line) (s .args .refusal) (search needs) (search needs) in
-    (omega arith, omega (arith, short, s .pre))
+    (omega arith, le-trans (bad-short _ _ (search needs) (search needs)) (s .pre))
 
 same-length : tie.Need-same-length
 same-length c = search needs

@@ -36,19 +36,19 @@ rule-in-requires : tie.Need-rule-in-requires Inv-loop μ-loop
 rule-in-requires c κs = let s = c .before .before .before in omega (arith, rules-length (s .args .rules .now))
 
 array-read-ready : tie.Need-array-read-ready Inv-loop μ-loop
-array-read-ready c = rule c .0
+array-read-ready c = omega (arith, rule c)
 
 array-read-ready-2 : tie.Need-array-read-ready-2 Inv-loop μ-loop
-array-read-ready-2 c = rule c .2
+array-read-ready-2 c = omega (arith, rule c)
 
 array-read-ready-3 : tie.Need-array-read-ready-3 Inv-loop μ-loop
-array-read-ready-3 c = rule c .1
+array-read-ready-3 c = omega (arith, rule c)
 
 array-write-ready : tie.Need-array-write-ready Inv-loop μ-loop
-array-write-ready c = rule c .0
+array-write-ready c = omega (arith, rule c)
 
 add-k : tie.Need-add-k Inv-loop μ-loop
-add-k c = omega (arith, rule c .2)
+add-k c = omega (arith, rule c)
 
 loop-less : tie.Need-loop-less Inv-loop μ-loop
 loop-less c = omega arith

@@ -3,11 +3,11 @@
 
     make.py PATH/enumerate.py STAGE SEED COUNT DIR
 
-STAGE is the letter of the last request of document 02 that holds, here a. DIR/stdin gets COUNT drawn texts
-and then the texts below, joined by form feeds (byte 12); DIR/stdout gets what `orders` must write for each,
-one after the other. Every answer is the enumerating program's own: of all valid orders it gives the
-greatest, read from the lowest level up. The texts below also carry the answer that the papers give them,
-and the two must agree.
+STAGE is the letter of the last request of document 02 that holds, here b. DIR/stdin gets those of COUNT drawn
+texts that have at most 1,000 bytes, and then the texts below, joined by form feeds (byte 12); DIR/stdout gets
+what `orders` must write for each, one after the other. Every answer is the enumerating program's own: of all
+valid orders it gives the greatest, read from the lowest level up. The texts below also carry the answer that
+the papers give them, and the two must agree. The stored files have SEED 1 and COUNT 2200.
 """
 import importlib.util
 import os
@@ -41,6 +41,11 @@ def core(*lines):
     return listing("core", *lines)
 
 
+def late(*tasks):
+    """An empty core: place and response of each task that is left."""
+    return core() + "".join("late\t%d\t%d\n" % task for task in tasks)
+
+
 GOOD = t(*FIELDS)
 EASY = t(1, 100, 100, 0, 0)  # any few of these meet their deadlines in every order
 A = t(1, 4, 4, 0, 0) + t(2, 6, 6, 0, 0) + t(3, 12, 12, 0, 0)
@@ -52,7 +57,7 @@ def cases():
     """K1 to K13."""
     yield A, A_ORDER  # K1, K2
     yield A.replace(b"12\t12", b"12\t10"), A_ORDER  # K3
-    yield A.replace(b"12\t12", b"12\t9"), core()  # K4
+    yield A.replace(b"12\t12", b"12\t9"), late((0, 0), (1, 0), (2, 10))  # K4
     yield A + r(1, 0), order((1, 2), (0, 3), (2, 10))  # K5
     yield A + r(1, 0) + r(2, 0) + r(2, 1), core((2, 2, 1))  # K6
     yield A + r(0, 1) + r(1, 0), core((0, 0, 1), (1, 1, 0))  # K7
@@ -61,7 +66,7 @@ def cases():
     yield t(1, 4, 4, 1, 0) + t(2, 6, 6, 0, 0) + r(0, 1), order((0, 2), (1, 3))  # K10
     yield t(1, 4, 4, 2, 0) + t(2, 6, 6, 0, 0) + r(0, 1), order((0, 3), (1, 4))  # K11
     yield t(1, 4, 4, 0, 3), order((0, 4))  # K12
-    yield t(1, 4, 4, 0, 4), core()  # K13
+    yield t(1, 4, 4, 0, 4), late((0, 0))  # K13
 
 
 def ends():
@@ -154,7 +159,8 @@ def ranges():
     yield t(1, 4, 4, 3, 0), order((0, 4))
     yield t(1, 1000000, 1000000, 999999, 0), order((0, 1000000))
     yield t(1, 1000000, 1000000, 0, 999999), order((0, 1000000))
-    yield t(1, 1000000, 1, 0, 1000000), core()
+    yield t(1, 1000000, 1, 0, 1000000), late((0, 0))
+    yield t(1, 1000000, 1, 0, 999999), late((0, 1000000))
 
 
 def rule_places():
@@ -224,16 +230,20 @@ def sizes():
 
 def verdicts():
     """Late rows, equal rules, circles, and responses of every length."""
-    for row in ((3, 4, 2, 0, 0), (4, 4, 1, 0, 0), (1, 4, 2, 2, 0), (1, 4, 2, 3, 0), (1, 4, 2, 0, 2), (1, 4, 1, 0, 4), (1, 4, 3, 2, 1)):
-        yield t(*row), core()
-        yield t(*row) + EASY, core()
-        yield EASY + t(*row) + r(0, 1), core()
-        yield EASY + t(*row) + r(0, 1) + r(1, 0), core()
+    for row, response in (((3, 4, 2, 0, 0), 3), ((1, 4, 2, 2, 0), 3), ((1, 4, 2, 3, 0), 4), ((1, 4, 2, 0, 2), 3), ((1, 4, 1, 0, 4), 0), ((1, 4, 3, 2, 1), 4)):
+        yield t(*row), late((0, response))
+        yield t(*row) + EASY, late((0, response))
+        yield EASY + t(*row) + r(0, 1), late((1, response))
+        yield EASY + t(*row) + r(0, 1) + r(1, 0), late((1, response))
+    whole = t(4, 4, 1, 0, 0)  # leaves no time for any other
+    yield whole, late((0, 4))
+    yield whole + EASY, late((0, 0), (1, 0))
+    yield EASY + whole + r(0, 1), late((0, 0), (1, 0))
     yield t(1, 4, 3, 2, 0), order((0, 3))
     yield t(2, 4, 4, 0, 0) * 2, order((0, 2), (1, 4))
     yield t(2, 4, 4, 0, 0) + t(2, 4, 3, 0, 0), order((1, 2), (0, 4))
     yield t(2, 4, 4, 0, 0) + t(2, 4, 4, 0, 1), order((1, 3), (0, 4))
-    yield t(2, 4, 4, 0, 1) * 2, core()
+    yield t(2, 4, 4, 0, 1) * 2, late((0, 0), (1, 0))
     yield A + r(1, 0) * 2, order((1, 2), (0, 3), (2, 10))
     yield A + r(2, 1) * 2, core((1, 2, 1))
     yield A + (r(0, 1) + r(1, 0)) * 2, core((2, 0, 1), (3, 1, 0))
@@ -248,10 +258,30 @@ def verdicts():
     yield EASY * 8, order(*((k, k + 1) for k in range(8)))
     for response in (9, 10, 99, 100, 999, 1000, 9999, 10000, 99999, 100000, 999999):
         yield t(1, 1000000, 1000000, response - 1, 0), order((0, response))
+        yield t(1, 1000000, response - 1, response - 1, 0), late((0, response))
+
+
+def late_tasks():
+    """Late by one, up to the period and past it, beside tasks that have a level, and with rules that play no part."""
+    yield t(2, 10, 10, 8, 0), order((0, 10))
+    yield t(2, 10, 9, 8, 0), late((0, 10))
+    yield t(2, 10, 9, 9, 0), late((0, 0))
+    yield t(3, 10, 2, 0, 7), late((0, 10))
+    yield t(3, 10, 2, 0, 8), late((0, 0))
+    two = t(2, 10, 3, 0, 0) * 2  # one of them must be lower, with response 4
+    yield two, late((0, 4), (1, 4))
+    yield two + EASY, late((0, 4), (1, 4))
+    yield EASY + two + r(0, 1) + r(0, 2), late((1, 4), (2, 4))
+    yield EASY + two + r(1, 0) + r(0, 1), late((1, 4), (2, 4))
+    yield two + t(2, 10, 4, 0, 0), late((0, 6), (1, 6), (2, 6))
+    yield two + t(2, 10, 6, 0, 0), late((0, 4), (1, 4))
+    yield two + t(2, 5, 4, 0, 0), late((0, 8), (1, 8), (2, 0))
+    yield two + t(1, 100, 6, 0, 0) + EASY + r(3, 2), late((0, 4), (1, 4))
+    yield EASY * 6 + two, late((6, 4), (7, 4))
 
 
 def made():
-    for part in (cases, ends, numbers, forms, odd_bytes, ranges, rule_places, full_sheets, sizes, verdicts):
+    for part in (cases, ends, numbers, forms, odd_bytes, ranges, rule_places, full_sheets, sizes, verdicts, late_tasks):
         yield from part()
 
 
@@ -271,18 +301,21 @@ def main(program, stage, seed, count, room):
     spec = importlib.util.spec_from_file_location("enumerating", program)
     enumerating = importlib.util.module_from_spec(spec)
     spec.loader.exec_module(enumerating)
-    texts, answers = [], []
+    with open(room + "/stdin", "rb") as stdin:
+        texts = [text for text in stdin.read().split(b"\f") if len(text) <= 1000]
+    drawn = len(texts)
+    answers = [enumerating.answer(text, stage) for text in texts]
     for text, want in made():
         got = enumerating.answer(text, stage)
         if got != want or b"\f" in text:
             sys.exit("make.py: %r\nhas the answer %r, and not %r" % (text[:200], got, want))
         texts.append(text)
         answers.append(got)
-    check_refusals(answers)
-    with open(room + "/stdin", "ab") as stdin, open(room + "/stdout", "a") as stdout:
-        stdin.write((b"\f" if int(count) > 0 else b"") + b"\f".join(texts))
+    check_refusals(answers[drawn:])
+    with open(room + "/stdin", "wb") as stdin, open(room + "/stdout", "w") as stdout:
+        stdin.write(b"\f".join(texts))
         stdout.write("".join(answers))
-    print("%d drawn texts and %d made ones" % (int(count), len(texts)))
+    print("%d drawn texts and %d made ones" % (drawn, len(texts) - drawn))
 
 
 if __name__ == "__main__":

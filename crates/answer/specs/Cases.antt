@@ -1,4 +1,5 @@
--- Cases K1 to K13 of document 01, as one list of facts about the definitions, with one proof. Assumes nothing.
+-- Cases K1 to K13 of document 01, with K4's listing by document 02, (b), as one list of facts about the definitions, with one proof.
+-- Assumes nothing.
 use mathlib.Core.Path.{_≡_, refl, subst}
 use mathlib.Core.Bool.{true, false}
 use mathlib.Core.List.{List, [], _∷_, _++_, map, flatMap}
@@ -20,12 +21,14 @@ use Rattle.text.specs.Text.{areNumbers, hasForm, asked, readFrom, reading}
 use Rattle.response.specs.declared.Response.{Response}
 use Rattle.response.specs.declared.Response.the-variants.{Within}
 use Rattle.response.specs.Equation.{interference, demand, windowFrom, windowOf, responseOf}
+use Rattle.response.specs.Timing.{timingOf}
+use Rattle.assignment.specs.LateTasks.{unassignable}
 use Rattle.assignment.specs.Orders.{everyRule, hp, ValidOrder, SomeOrder}
 use Rattle.assignment.specs.Audsley.{unassigned, ready, mayTake, fill, feasible, responseAt}
 use Rattle.verdict.specs.Core.{tried, staying}
 use Rattle.verdict.specs.Verdict.{cored, verdictOn, deciding}
 use Rattle.verdict.specs.Solving.{assign-valid}
-use Rattle.listing.specs.Listing.{linesBelow, listingWith}
+use Rattle.listing.specs.Listing.{linesBelow, listingWith, listing}
 use Rattle.answer.specs.Answer.{report}
 
 -- a task and a rule as their lines have them
@@ -68,11 +71,19 @@ exampleListing =
     ++ (49 ∷ 9 ∷ 48 ∷ 9 ∷ 51 ∷ 10 ∷ [])
     ++ (50 ∷ 9 ∷ 50 ∷ 9 ∷ 49 ∷ 48 ∷ 10 ∷ [])
 
+-- K4's listing: `core` and 0, then `late`, place and response for each task
+abbrev pub lateListing : List ℕ
+lateListing =
+    (99 ∷ 111 ∷ 114 ∷ 101 ∷ 9 ∷ 48 ∷ 10 ∷ [])
+    ++ (108 ∷ 97 ∷ 116 ∷ 101 ∷ 9 ∷ 48 ∷ 9 ∷ 48 ∷ 10 ∷ [])
+    ++ (108 ∷ 97 ∷ 116 ∷ 101 ∷ 9 ∷ 49 ∷ 9 ∷ 48 ∷ 10 ∷ [])
+    ++ (108 ∷ 97 ∷ 116 ∷ 101 ∷ 9 ∷ 50 ∷ 9 ∷ 49 ∷ 48 ∷ 10 ∷ [])
+
 pub record Cases : Type 0 where
   pub k1 : responsesOf (sheetA 0 12) asTyped ≡ Within 1 ∷ Within 3 ∷ Within 10 ∷ []
   pub k2 : (demand (sheetA 0 12) 2 (hp asTyped 2) 9 ≡ 10) × (demand (sheetA 0 12) 2 (hp asTyped 2) 10 ≡ 10)
   pub k3 : SomeOrder (sheet (sheetA 0 10) []) everyRule
-  pub k4 : verdictOn (sheet (sheetA 0 9) []) ≡ cored []
+  pub k4 : (verdictOn (sheet (sheetA 0 9) []) ≡ cored []) × (listing (sheet (sheetA 0 9) []) (cored []) ≡ lateListing)
   pub k5 : report exampleText ≡ exampleListing
   pub k6 : verdictOn (sheet (sheetA 0 12) (above 1 0 ∷ above 2 0 ∷ above 2 1 ∷ [])) ≡ cored (false ∷ false ∷ true ∷ [])
   pub k7 : verdictOn (sheet (sheetA 0 12) (above 0 1 ∷ above 1 0 ∷ [])) ≡ cored (true ∷ true ∷ [])
@@ -91,13 +102,13 @@ heard-whole l e = subst Sound e (heard-sound noLists none-sound (callsOf l))
 pub cases : Cases
 unfolding report reading readFrom parts asked hasForm areNumbers isNumber areDigits valueAfter
     deciding linesBelow flatMap line linesOf listingWith decimal digitsIn verdictOn staying tried feasible fill mayTake ready
-    unassigned greatest all responseOf windowOf windowFrom demand interference sum hear heard refusalBy rowRefusals indexRefusals
+    unassigned unassignable greatest all timingOf responseOf windowOf windowFrom demand interference sum hear heard refusalBy rowRefusals indexRefusals
 cases =
     record {
       k1 = refl;
       k2 = (refl, refl);
       k3 = (asTyped, assign-valid (sheet (sheetA 0 10) []) (heard-whole (sheet (sheetA 0 10) []) refl) everyRule refl);
-      k4 = refl;
+      k4 = (refl, refl);
       k5 = refl;
       k6 = refl;
       k7 = refl;

@@ -43,8 +43,8 @@ pub fn answer(text: &[u8], out: &mut [u8]) -> Answered
     }
     let rows = &tasks[..TASK_WORDS * read.ntasks];
     let rules = &list[..RULE_WORDS * read.nrules];
-    let verdict = decide(rows, rules);
-    let shown = show(verdict, rows, rules, out);
+    let decided = decide(rows, rules);
+    let shown = show(decided, rows, rules, out);
     Answered {
         refusal: shown.refusal,
         line,

@@ -105,20 +105,24 @@ module _ (p : Problem) (active : ℕ → Bool) where
   by-more i low g by zero h = g
   by-more i low g by (suc k) h = by k (le-of-suc-le-suc h)
 
+  -- all its levels did, whether every task got one or not
+  pub assign-greatest : (k : ℕ) → k < length (assign p active) → (i : ℕ)
+      → MayTake (p .rules) (Passes p) active (unassigned (p .tasks) (drop (suc k) (assign p active))) i → i ≤ getD (assign p active) k 0
+  assign-greatest k h i may =
+      let left = unassigned (p .tasks) (drop (suc k) (assign p active)) in
+      let by = assign-keeps p active ByGreatest by-more (λ k h. absurd (not-suc-le-zero h)) .0 in
+      ⊎-elim
+      (λ more.
+      absurd (by k h .last i (unassigned-is (p .tasks) (drop (suc k) (assign p active)) i (may .isLeft) .0) more (may-test p active left i may)))
+      (λ le. le)
+      (lt-or-le (getD (assign p active) k 0) i)
+
   pub assign-canonical : length (assign p active) ≡ p .tasks → Canonical (p .tasks) (p .rules) (Passes p) active (assign p active)
   assign-canonical whole =
       record {
         isOrder = is;
         each = filled-each p active order filled whole;
-        greatest = λ k h i m.
-            let rest = drop (suc k) order in
-            let may = rw (left-unassigned is k h) at m in
-            ⊎-elim
-            (λ more.
-            absurd
-            (by k h .last i (unassigned-is (p .tasks) rest i (may .isLeft) .0) more (may-test p active (unassigned (p .tasks) rest) i may)))
-            (λ le. le)
-            (lt-or-le (getD order k 0) i);
+        greatest = λ k h i m. assign-greatest k h i (rw (left-unassigned is k h) at m);
       }
     where
       order : List ℕ
@@ -129,6 +133,3 @@ module _ (p : Problem) (active : ℕ → Bool) where
 
       is : IsOrder (p .tasks) order
       is = filled-order p active order filled whole
-
-      by : ByGreatest order
-      by = assign-keeps p active ByGreatest by-more (λ k h. absurd (not-suc-le-zero h)) .0

@@ -71,7 +71,7 @@ module _ (p : Problem) (active : ℕ → Bool) where
         (m .meets)
 
   -- each level was given to a task that might take it
-  filled-at : (low : List ℕ) → Filled p active low → (k : ℕ) → k < length low
+  pub filled-at : (low : List ℕ) → Filled p active low → (k : ℕ) → k < length low
       → T (mayTake p active (unassigned (p .tasks) (drop (suc k) low)) (getD low k 0))
   filled-at all empty k h = absurd (not-suc-le-zero h)
   filled-at all (level i low l t f) zero h = t
@@ -216,7 +216,7 @@ module _ (p : Problem) (active : ℕ → Bool) where
           absurd (out (j .0) (j .1) (j .2)))
           (eq-zero-or-pos (count (p .tasks) (unassigned (p .tasks) low)))
 
-  assign-ends : Ends (assign p active)
+  pub assign-ends : Ends (assign p active)
   assign-ends = assign-keeps (Filled p active) (λ i low g f. level i low (g .below) (g .passes) f) empty
 
   pub assign-filled : Filled p active (assign p active)

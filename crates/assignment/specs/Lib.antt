@@ -1,6 +1,7 @@
 pub mod Orders
 pub mod Canonical
 pub mod Audsley
+pub mod LateTasks
 pub mod Search
 pub mod Levels
 pub mod Decision
@@ -8,5 +9,6 @@ pub mod CanonicalLaws
 pub mod Ready
 pub mod Filling
 pub mod Preemptive
+pub mod LateLaws
 pub mod Hints
 pub mod Going

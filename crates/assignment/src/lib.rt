@@ -11,10 +11,13 @@ ghost use Rattle.taskset.specs.Refusals.{maxTasks};
 ghost use Rattle.taskset.specs.Model.{SoundTasks, Sound};
 ghost use Rattle.taskset.specs.Words.{tasksIn, rulesIn, listsIn};
 ghost use Rattle.assignment.specs.Orders.{noRule, SomeOrder};
+ghost use Rattle.assignment.specs.LateTasks.{lateResponse};
 ghost use Rattle.assignment.specs.Audsley.{passes, ready, assign, responseAt, problem, bare};
 ghost use Rattle.assignment.specs.Search.{Indexed, candidate, chosen, AnyOf, lowestFree, Searched, Ended, HoldsLevels, Assigns, Known, Helps};
 use response::Response;
+use response::reported;
 use response::response_time;
+use response::timing_of;
 use taskset::MAX_RULES;
 use taskset::MAX_TASKS;
 use taskset::PriorityLevel;
@@ -90,6 +93,18 @@ fn level_response(rows: &[u64], left: [bool; MAX_TASKS], task: TaskIndex) -> Res
     let mut above = left;
     above[i] = false;
     response_time(rows, task, above, own.deadline)
+}
+
+// The response that is reported of a task left without a level: up to its period, with the others that are left above it.
+pub fn late_response(rows: &[u64], left: [bool; MAX_TASKS], task: TaskIndex) -> u64
+    requires { ⌜ SoundTasks (tasksIn (now rows)) ⌝ }
+    requires { ⌜ task .0 < length (tasksIn (now rows)) ⌝ }
+    ensures { λ r. ⌜ r ≡ lateResponse (tasksIn (now (rows .entry))) (marked left) (task .0) ⌝ }
+{
+    let i = task.0;
+    let mut above = left;
+    above[i] = false;
+    reported(timing_of(rows, task, above))
 }
 
 // Of the ready tasks that meet their deadline, the one with the greatest index takes the level.

@@ -8,7 +8,8 @@ use Rattle.taskset.specs.Model.{Lists}
 use Rattle.verdict.specs.declared.Verdict.{Verdict}
 use Rattle.verdict.specs.Correct.{Correct}
 use Rattle.verdict.specs.OneOrder.{OneOrder}
-use Rattle.listing.specs.Listing.{listing}
+use Rattle.listing.specs.Listing.{lateFor, listing}
+use Rattle.listing.specs.LateLines.{LateLines}
 
 -- so many bytes, in a buffer that was so and is so now
 pub record Gives (l : Lists) (v : Verdict) (count : ℕ) (was is : List ℕ) : Type 0 where
@@ -19,3 +20,5 @@ pub record Gives (l : Lists) (v : Verdict) (count : ℕ) (was is : List ℕ) : T
   pub correct : Correct l v
   -- document 02, (a)
   pub oneOrder : OneOrder l v
+  -- document 02, (b)
+  pub late : LateLines l v (lateFor l v (v .answer))

@@ -1,28 +1,79 @@
 -- A verdict is shown as a refusal by a number from 1 to 99 or as a listing, and a listing gives what it should. Assumes nothing.
 use mathlib.Core.Path.{_≡_, refl, sym, ap, subst}
 use mathlib.Core.Bool.{Bool, true, false}
-use mathlib.Core.List.{List}
+use mathlib.Core.List.{List, []}
 use mathlib.Core.Logic.{_⊎_, inl, inr}
 use Prim.Native.Nat.{ℕ, _≤_, _<_}
 use native.Mathlib.Omega.{arith}
-use lib.Dec.{leb}
+use borrow.Author.Tests.{eq-eqb, ne-eqb}
+use lib.Dec.{T, leb}
 use lib.ListN.{length}
 use Rattle.sets.specs.Choice.{pick, lt-or-le}
+use Rattle.sets.specs.Marks.{marked}
 use Rattle.sets.specs.Onto.{onto}
 use Rattle.taskset.specs.declared.TaskSet.{TaskSet}
 use Rattle.taskset.specs.Model.{Lists, Sound}
 use Rattle.taskset.specs.Adding.{lists}
 use Rattle.taskset.specs.Passing.{Sized}
+use Rattle.assignment.specs.LateTasks.{unassignable}
+use Rattle.assignment.specs.LateLaws.{left-inside, late-tasks}
+use Rattle.verdict.specs.declared.Answer.{Answer}
+use Rattle.verdict.specs.declared.Answer.the-variants.{Refused, Order, Core}
 use Rattle.verdict.specs.declared.Verdict.{Verdict}
+use Rattle.verdict.specs.Correct.{Correct}
 use Rattle.verdict.specs.Verdict.{deciding, solving}
 use Rattle.verdict.specs.Solving.{deciding-13, solving-cases}
 use Rattle.verdict.specs.Explained.{deciding-correct}
 use Rattle.verdict.specs.OneOrderLaws.{deciding-one}
 use Rattle.listing.specs.declared.Shown.{Shown}
 use Rattle.listing.specs.declared.Listed.{Listed}
-use Rattle.listing.specs.Listing.{listing, Outcome, refused, shown, outcome, fitted, shownAs, listed, bufferAfter}
+use Rattle.listing.specs.Listing.{ruleLine, lateLine, linesBelow, linesFor, lateFor, listing, Outcome, refused, shown, outcome, fitted, shownAs, listed, bufferAfter}
+use Rattle.listing.specs.LateLines.{EmptyCore, LateLines}
 use Rattle.listing.specs.Gives.{Gives}
+use Rattle.listing.specs.NumbersLaws.{lines-none, lines-some}
 use Rattle.listing.specs.Showing.{outcome-shown, ListsAs}
+
+-- ---- the late lines
+
+module _ (l : Lists) (v : Verdict) where
+  abbrev inCore : ℕ → Bool
+  inCore = marked (v .core)
+
+  abbrev count : ℕ
+  count = length (linesFor l v Core)
+
+  module _ (sound : Sound l) (ok : Correct l v) where
+    -- a core has no line exactly when it is empty
+    none-counted : EmptyCore v → count ≡ 0
+    none-counted empty = lines-none inCore (ruleLine (l .rules)) (length (l .rules)) (λ k h. empty .1 k)
+
+    counted-none : v .answer ≡ Core → count ≡ 0 → EmptyCore v
+    counted-none e z = (
+      e,
+      λ k t. omega (arith, z, lines-some inCore (ruleLine (l .rules)) (length (l .rules)) k (ok .rules e k t) t),
+    )
+
+    gained : EmptyCore v → lateFor l v (v .answer) ≡ linesBelow (unassignable l) (lateLine (l .tasks) (unassignable l)) (length (l .tasks))
+    gained empty = rw (empty .0, eq-eqb count 0 (none-counted empty))
+
+    unchanged : (a : Answer) → v .answer ≡ a → (EmptyCore v → ⊥) → lateFor l v a ≡ []
+    unchanged (Refused k) e full = refl
+    unchanged Order e full = refl
+    unchanged Core e full = rw (ne-eqb count 0 (λ z. full (counted-none e z)))
+
+    late-lines : LateLines l v (lateFor l v (v .answer))
+    late-lines =
+        let tasks = late-tasks l sound in
+        record {
+          gained = gained;
+          unchanged = unchanged (v .answer) refl;
+          some = λ empty.
+              let one = tasks .some .1 (ok .empty (empty .0) .0 (empty .1)) in
+              rw (gained empty) (lines-some (unassignable l) (lateLine (l .tasks) (unassignable l)) (length (l .tasks)) (one .0) (left-inside l (one .0) (one .1)) (one .1));
+          tasks = tasks;
+        }
+
+-- ---- a refusal or a listing
 
 module _ (l : Lists) where
   abbrev HasTasks : Type 0
@@ -55,7 +106,9 @@ module _ (l : Lists) where
 
     -- the listing gives what it should
     pub gives : HasTasks → (was : List ℕ) → let bytes = listing l (deciding l) in Gives l (deciding l) (length bytes) was (onto bytes was)
-    gives some was = record { size = refl; bytes = refl; correct = deciding-correct l sound some; oneOrder = deciding-one l sound }
+    gives some was =
+        let ok = deciding-correct l sound some in
+        record { size = refl; bytes = refl; correct = ok; oneOrder = deciding-one l sound; late = late-lines l (deciding l) sound ok }
 
     -- so does showing it, where nothing is refused
     pub either-gives : (o : Outcome) → RefusedOrListed o → (was : List ℕ) (r : Shown) (is : List ℕ) → r ≡ shownAs o → is ≡ bufferAfter o was

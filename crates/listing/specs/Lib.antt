@@ -1,4 +1,5 @@
 pub mod Listing
+pub mod LateLines
 pub mod Gives
 pub mod Numbers
 pub mod NumbersLaws

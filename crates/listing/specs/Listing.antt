@@ -1,19 +1,22 @@
--- Document 01, "Text and listing": the listing of a verdict, and what listing a set leaves in a buffer. Assumes nothing.
+-- Document 01, "Text and listing", with the late lines of document 02, (b): the listing of a verdict, and what listing a set leaves
+-- in a buffer. Assumes nothing.
 use mathlib.Core.Bool.{Bool, true}
 use mathlib.Core.List.{List, [], _∷_, _++_}
 use Prim.Native.Nat.{ℕ, zero, suc}
-use lib.Dec.{leb}
+use lib.Dec.{leb, eqb}
 use lib.ListN.{length, getD}
 use Rattle.sets.specs.Choice.{pick}
 use Rattle.sets.specs.Marks.{marked}
 use Rattle.sets.specs.Onto.{onto}
 use Rattle.lines.specs.Decimal.{tab}
 use Rattle.lines.specs.Line.{line, linesOf}
+use Rattle.taskset.specs.declared.Task.{Task}
 use Rattle.taskset.specs.declared.Rule.{Rule}
 use Rattle.taskset.specs.declared.TaskIndex.{TaskIndex}
 use Rattle.taskset.specs.declared.TaskSet.{TaskSet}
 use Rattle.taskset.specs.Model.{Lists, ruleAt}
 use Rattle.assignment.specs.Search.{index}
+use Rattle.assignment.specs.LateTasks.{unassignable, lateResponse}
 use Rattle.verdict.specs.declared.Answer.{Answer}
 use Rattle.verdict.specs.declared.Answer.the-variants.{Refused, Order, Core}
 use Rattle.verdict.specs.declared.Verdict.{Verdict}
@@ -30,6 +33,10 @@ levelLine order responses k = k ∷ getD order k (index 0) .0 ∷ getD responses
 abbrev pub ruleLine : List Rule → ℕ → List ℕ
 ruleLine rules k = k ∷ ruleAt rules k .higher .0 ∷ ruleAt rules k .lower .0 ∷ []
 
+-- of a late task: place, response
+abbrev pub lateLine : List Task → (ℕ → Bool) → ℕ → List ℕ
+lateLine tasks left i = i ∷ lateResponse tasks left i ∷ []
+
 -- the lines of the indices below n that are in, rising
 unfoldable pub linesBelow : (ℕ → Bool) → (ℕ → List ℕ) → ℕ → List (List ℕ)
 linesBelow isIn nums zero = []
@@ -41,6 +48,15 @@ linesFor l v (Refused k) = []
 linesFor l v Order = linesBelow (λ k. true) (levelLine (v .order) (v .responses)) (length (l .tasks))
 linesFor l v Core = linesBelow (marked (v .core)) (ruleLine (l .rules)) (length (l .rules))
 
+-- under a core of no rules, every task left without a level; else none
+abbrev pub lateUnder : ℕ → List Task → (ℕ → Bool) → List (List ℕ)
+lateUnder rules tasks left = pick (eqb rules 0) (linesBelow left (lateLine tasks left) (length tasks)) []
+
+abbrev pub lateFor : Lists → Verdict → Answer → List (List ℕ)
+lateFor l v (Refused k) = []
+lateFor l v Order = []
+lateFor l v Core = lateUnder (length (linesFor l v Core)) (l .tasks) (unassignable l)
+
 -- ---- bytes
 
 -- `order` or `core`, and a tab
@@ -49,12 +65,16 @@ word (Refused k) = []
 word Order = 111 ∷ 114 ∷ 100 ∷ 101 ∷ 114 ∷ tab ∷ []
 word Core = 99 ∷ 111 ∷ 114 ∷ 101 ∷ tab ∷ []
 
--- the head line, with the count of the others, and those
-unfoldable pub listingWith : List ℕ → List (List ℕ) → List ℕ
-listingWith head lines = line head (length lines ∷ []) ++ linesOf [] lines
+-- `late` and a tab
+abbrev pub late : List ℕ
+late = 108 ∷ 97 ∷ 116 ∷ 101 ∷ tab ∷ []
+
+-- the head line, with the count of the lines after it, those, and the late lines
+unfoldable pub listingWith : List ℕ → List (List ℕ) → List (List ℕ) → List ℕ
+listingWith head lines tasks = line head (length lines ∷ []) ++ linesOf [] lines ++ linesOf late tasks
 
 abbrev pub listing : Lists → Verdict → List ℕ
-listing l v = listingWith (word (v .answer)) (linesFor l v (v .answer))
+listing l v = let a = v .answer in listingWith (word a) (linesFor l v a) (lateFor l v a)
 
 -- ---- into a buffer
 

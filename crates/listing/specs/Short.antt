@@ -1,13 +1,19 @@
--- A listing is never long: an order's at most 9 + 64 × 14 bytes, a core's at most 9 + 128 × 10. Assumes nothing.
-use mathlib.Core.Path.{_≡_, refl, sym, ap, _∙_}
+-- A listing is never long: an order's at most 9 + 64 × 14 bytes, a core's at most 9 + 128 × 10, and that of an empty core at most
+-- 9 + 64 × 16. Assumes nothing.
+use mathlib.Core.Path.{_≡_, refl, sym, ap, subst, _∙_}
 use mathlib.Core.Bool.{Bool, true, false}
 use mathlib.Core.List.{List, [], _∷_, _++_, flatMap, append-nil}
-use mathlib.Core.Logic.{_⊎_, inl, inr, ⊎-elim}
+use mathlib.Core.Logic.{⊎-elim}
 use Prim.Native.Nat.{ℕ, zero, suc, _+_, _*_, _^_, _≤_, _<_}
+use native.Mathlib.Nat.{mul-suc}
+use native.Mathlib.Numerals.{add-one}
 use native.Mathlib.Omega.{arith}
+use borrow.Author.Tests.{eqb-true}
+use lib.Dec.{eqb}
 use lib.ListN.{length, getD, take, length-append, List·getD-map, List·getD-eq-default}
 use lib.Seq.{getD-take}
 use Rattle.sets.specs.Choice.{pick, lt-or-le}
+use Rattle.sets.specs.Bounded.{without}
 use Rattle.sets.specs.Marks.{marked}
 use Rattle.sets.specs.Flat.{flat-snoc}
 use Rattle.lines.specs.Decimal.{tab}
@@ -16,17 +22,21 @@ use Rattle.lines.specs.Line.{line, linesOf}
 use Rattle.lines.specs.LineWriting.{field-long, tabbed, line-long}
 use Rattle.taskset.specs.declared.TaskIndex.{TaskIndex}
 use Rattle.taskset.specs.declared.TaskSet.{TaskSet}
-use Rattle.taskset.specs.Model.{Lists, Sound}
+use Rattle.taskset.specs.Model.{Lists, taskAt, Sound}
 use Rattle.taskset.specs.Adding.{lists}
 use Rattle.taskset.specs.Passing.{Sized}
+use Rattle.response.specs.Equation.{demand}
+use Rattle.response.specs.TimingLaws.{reported-le}
 use Rattle.assignment.specs.Search.{index}
+use Rattle.assignment.specs.LateTasks.{unassignable}
+use Rattle.verdict.specs.declared.Answer.{Answer}
 use Rattle.verdict.specs.declared.Answer.the-variants.{Order, Core}
 use Rattle.verdict.specs.declared.Verdict.{Verdict}
 use Rattle.verdict.specs.Verdict.{deciding, solving}
 use Rattle.verdict.specs.Correct.{orderGiven, Correct}
 use Rattle.verdict.specs.Solving.{solving-cases}
 use Rattle.verdict.specs.Explained.{deciding-correct}
-use Rattle.listing.specs.Listing.{levelLine, ruleLine, linesBelow, linesFor, word, listingWith, listing}
+use Rattle.listing.specs.Listing.{levelLine, ruleLine, lateLine, linesBelow, linesFor, lateFor, word, late, listingWith, listing}
 use Rattle.listing.specs.Listing.{Outcome, refused, shown, outcome, maxListing}
 use Rattle.listing.specs.NumbersLaws.{lines-few}
 use Rattle.listing.specs.GivesLaws.{RefusedOrListed, refusal, verdict, decided-either}
@@ -40,7 +50,17 @@ unfolding flatMap
 number-short k n ns some h =
     omega (arith, decimal-width k n some h, field-long n tab, length-append (tabbed n) (flatMap tabbed ns))
 
--- a line of three such numbers
+-- a line of two such numbers, and of three
+pair-short : (head : List ℕ) (i j a b : ℕ) → 1 ≤ i → 1 ≤ j → a < 10 ^ i → b < 10 ^ j → length (line head (a ∷ b ∷ [])) ≤ length head + i + j + 2
+unfolding flatMap
+pair-short head i j a b one two f s =
+    omega (
+      arith,
+      line-long head (a ∷ b ∷ []) (omega arith),
+      number-short i a (b ∷ []) one f,
+      number-short j b [] two s,
+    )
+
 line-short : (i j k a b c : ℕ) → 1 ≤ i → 1 ≤ j → 1 ≤ k → a < 10 ^ i → b < 10 ^ j → c < 10 ^ k
     → length (line [] (a ∷ b ∷ c ∷ [])) ≤ i + j + k + 3
 unfolding flatMap
@@ -54,28 +74,40 @@ line-short i j k a b c one two three f s t =
     )
 
 -- lines of at most b bytes
-lines-short : (b : ℕ) (isIn : ℕ → Bool) (nums : ℕ → List ℕ) (n : ℕ) → ((k : ℕ) → k < n → length (line [] (nums k)) ≤ b)
-    → length (linesOf [] (linesBelow isIn nums n)) ≤ b * n
+lines-short : (b : ℕ) (head : List ℕ) (isIn : ℕ → Bool) (nums : ℕ → List ℕ) (n : ℕ) → ((k : ℕ) → k < n → length (line head (nums k)) ≤ b)
+    → let lines = linesBelow isIn nums n in length (linesOf head lines) ≤ b * length lines
 unfolding linesBelow linesOf flatMap
-lines-short b isIn nums zero each = omega arith
-lines-short b isIn nums (suc n) each =
-    go (isIn n) (each n (omega arith)) (lines-short b isIn nums n (λ k h. each k (omega arith)))
+lines-short b head isIn nums zero each = omega arith
+lines-short b head isIn nums (suc n) each =
+    go (isIn n) (each n (omega arith)) (lines-short b head isIn nums n (λ k h. each k (omega arith)))
   where
-    go : (c : Bool) → length (line [] (nums n)) ≤ b → length (linesOf [] (linesBelow isIn nums n)) ≤ b * n
-        → length (linesOf [] (linesBelow isIn nums n ++ pick c (nums n ∷ []) [])) ≤ b * suc n
+    go : (c : Bool) → length (line head (nums n)) ≤ b
+        → length (linesOf head (linesBelow isIn nums n)) ≤ b * length (linesBelow isIn nums n)
+        → let lines = linesBelow isIn nums n ++ pick c (nums n ∷ []) [] in length (linesOf head lines) ≤ b * length lines
     go true one front =
         let lines = linesBelow isIn nums n in
-        omega (arith, ap length (flat-snoc (line []) lines (nums n)), length-append (flatMap (line []) lines) (line [] (nums n)))
-    go false one front = rw (append-nil (linesBelow isIn nums n)) (omega arith)
+        omega (
+          arith,
+          ap length (flat-snoc (line head) lines (nums n)),
+          length-append (flatMap (line head) lines) (line head (nums n)),
+          ap (λ (k : ℕ). b * k) (length-append lines (nums n ∷ []) ∙ add-one (length lines)),
+          mul-suc b (length lines),
+        )
+    go false one front = rw (append-nil (linesBelow isIn nums n)) front
+
+no-lines : (head : List ℕ) → length (linesOf head []) ≡ 0
+unfolding linesOf flatMap
+no-lines head = refl
 
 -- and the head line, with fewer than 10 ^ d lines
-listing-long : (d : ℕ) (head : List ℕ) (lines : List (List ℕ)) → 1 ≤ d → length lines < 10 ^ d
-    → length (listingWith head lines) ≤ length head + d + 1 + length (linesOf [] lines)
+listing-long : (d : ℕ) (head : List ℕ) (lines tasks : List (List ℕ)) → 1 ≤ d → length lines < 10 ^ d
+    → length (listingWith head lines tasks) ≤ length head + d + 1 + length (linesOf [] lines) + length (linesOf late tasks)
 unfolding listingWith flatMap
-listing-long d head lines some few =
+listing-long d head lines tasks some few =
     let n = length lines in
     omega (
       arith,
+      length-append (line head (n ∷ []) ++ linesOf [] lines) (linesOf late tasks),
       length-append (line head (n ∷ [])) (linesOf [] lines),
       line-long head (n ∷ []) (omega arith),
       number-short d n [] some few,
@@ -113,23 +145,61 @@ module _ (l : Lists) (sound : Sound l) (v : Verdict) (ok : Correct l v) where
       let rule = sound .indices k h in
       line-short 3 2 2 k _ _ (omega arith) (omega arith) (omega arith) (omega arith) (omega arith) (omega arith)
 
-  listing-few : (v .answer ≡ Order) ⊎ (v .answer ≡ Core) → length (listing l v) ≤ maxListing
-  listing-few (inl e) =
+  -- a late task is one of them, and its response is within its period
+  late-short : (k : ℕ) → k < n → length (line late (lateLine (l .tasks) (unassignable l) k)) ≤ 16
+  late-short k h =
       let few = sound .tasks .few in
-      let lines : length (linesFor l v Order) ≤ n = lines-few _ _ _ n in
-      rw e (omega (
+      let own = taskAt (l .tasks) k in
+      let d = demand (l .tasks) k (without (unassignable l) k) in
+      let within = reported-le d (own .jitter) (own .deadline) (own .period) in
+      let nums = sound .tasks .each k h in
+      pair-short late 2 7 k _ (omega arith) (omega arith) (omega arith) (omega arith)
+
+  -- by the answer
+  abbrev Short : Answer → Type 0
+  Short a = length (listingWith (word a) (linesFor l v a) (lateFor l v a)) ≤ maxListing
+
+  order-short : v .answer ≡ Order → Short Order
+  order-short e =
+      let few = sound .tasks .few in
+      let lines : length (linesFor l v Order) ≤ n = lines-few _ _ n in
+      omega (
         arith,
-        listing-long 2 (word Order) (linesFor l v Order) (omega arith) (omega arith),
-        lines-short 14 (λ k. true) (levelLine (v .order) (v .responses)) n (level-short e),
-      ))
-  listing-few (inr e) =
-      let few = sound .few-rules in
-      let lines : length (linesFor l v Core) ≤ length (l .rules) = lines-few _ _ _ (length (l .rules)) in
-      rw e (omega (
-        arith,
-        listing-long 3 (word Core) (linesFor l v Core) (omega arith) (omega arith),
-        lines-short 10 (marked (v .core)) (ruleLine (l .rules)) (length (l .rules)) rule-short,
-      ))
+        listing-long 2 (word Order) (linesFor l v Order) [] (omega arith) (omega arith),
+        lines-short 14 [] (λ k. true) (levelLine (v .order) (v .responses)) n (level-short e),
+        no-lines late,
+      )
+
+  -- with late lines under no others, or none
+  core-short : Short Core
+  core-short = go (eqb (length (linesFor l v Core)) 0) refl
+    where
+      go : (b : Bool) → eqb (length (linesFor l v Core)) 0 ≡ b
+          → let tasks = pick b (linesBelow (unassignable l) (lateLine (l .tasks) (unassignable l)) n) [] in
+          length (listingWith (word Core) (linesFor l v Core) tasks) ≤ maxListing
+      go true f =
+          let few = sound .tasks .few in
+          let tasks = linesBelow (unassignable l) (lateLine (l .tasks) (unassignable l)) n in
+          let none = eqb-true (length (linesFor l v Core)) 0 f in
+          omega (
+            arith,
+            listing-long 3 (word Core) (linesFor l v Core) tasks (omega arith) (omega arith),
+            lines-short 10 [] (marked (v .core)) (ruleLine (l .rules)) (length (l .rules)) rule-short,
+            lines-short 16 late (unassignable l) (lateLine (l .tasks) (unassignable l)) n late-short,
+            lines-few (unassignable l) (lateLine (l .tasks) (unassignable l)) n,
+          )
+      go false f =
+          let few = sound .few-rules in
+          let lines : length (linesFor l v Core) ≤ length (l .rules) = lines-few _ _ (length (l .rules)) in
+          omega (
+            arith,
+            listing-long 3 (word Core) (linesFor l v Core) [] (omega arith) (omega arith),
+            lines-short 10 [] (marked (v .core)) (ruleLine (l .rules)) (length (l .rules)) rule-short,
+            no-lines late,
+          )
+
+  listing-few : length (listing l v) ≤ maxListing
+  listing-few = ⊎-elim (λ e. subst Short (sym e) (order-short e)) (λ e. subst Short (sym e) core-short) (ok .one)
 
 -- what is refused is not shown
 not-shown : (o : Outcome) (k : ℕ) (bytes : List ℕ) → o ≡ refused k → o ≡ shown bytes → ⊥
@@ -144,7 +214,7 @@ deciding-short l sound bytes = go (outcome l (deciding l)) (decided-either l sou
     go o (verdict some) e =
         let ok = deciding-correct l sound some in
         let same : bytes ≡ listing l (deciding l) = cc in
-        rw same (listing-few l sound (deciding l) ok (ok .one))
+        rw same (listing-few l sound (deciding l) ok)
 
 pub listing-short : (s : TaskSet) → Sized s → (bytes : List ℕ) → outcome (lists s) (solving s .verdict) ≡ shown bytes
     → length bytes ≤ maxListing

@@ -1,17 +1,21 @@
-// Listing a verdict: its order or its core is written into a lent buffer, a line at a time.
+// Listing a verdict: its order, or its core with the late tasks under an empty one, is written into a lent buffer, a line at a time.
 
 ghost use mathlib.Core.Path.{_≡_};
 ghost use Prim.Native.Nat.{_+_, _≤_};
 ghost use lib.ListN.{length};
+ghost use lib.Seq.{sets};
 ghost use Rattle.sets.specs.Marks.{marked};
 ghost use Rattle.lines.specs.Line.{chunks, maxHead};
 ghost use Rattle.taskset.specs.Refusals.{maxTasks, maxRules};
+ghost use Rattle.taskset.specs.Model.{SoundTasks, Sound};
 ghost use Rattle.taskset.specs.Adding.{lists};
 ghost use Rattle.taskset.specs.Words.{tasksIn, rulesIn, listsIn};
+ghost use Rattle.assignment.specs.LateTasks.{unassignable};
 ghost use Rattle.verdict.specs.Verdict.{solving};
-ghost use Rattle.listing.specs.Listing.{ruleLine, linesBelow, listingWith, outcome, shown, fitted, shownAs, listed, bufferAfter};
+ghost use Rattle.listing.specs.Listing.{ruleLine, linesBelow, lateUnder, listingWith, outcome, shown, fitted, shownAs, listed, bufferAfter};
 ghost use Rattle.listing.specs.Gives.{Gives};
-ghost use Rattle.listing.specs.Numbers.{width, maxNumbers, HasLines, withNumbers, levelLines};
+ghost use Rattle.listing.specs.Numbers.{width, maxNumbers, lateWidth, maxLate, HasLines, levelLines};
+use assignment::late_response;
 use lines::line_size;
 use lines::lines_size;
 use lines::put_line;
@@ -27,14 +31,16 @@ use taskset::TaskSet;
 use taskset::rule_in;
 use taskset::write_words;
 use verdict::Answer;
-use verdict::Verdict;
+use verdict::Decided;
 use verdict::decide;
 
 // The bytes that are always enough for a listing.
 pub const MAX_LISTING: usize = 1289;
 
-// The numbers of a line after the head line.
+// The numbers of a level's or a rule's line, and of a late line.
 const WIDTH: usize = 3;
+
+const LATE_WIDTH: usize = 2;
 
 // What showing a verdict answers: a refusal's number or 0, and the listing's byte count.
 pub struct Shown {
@@ -49,13 +55,16 @@ pub struct Listed {
 }
 
 // Writes a line's numbers from a position on.
-fn put_numbers(numbers: &mut [u64], at: usize, first: u64, second: u64, third: u64)
-    requires { ⌜ at + width ≤ length (now numbers) ⌝ }
-    ensures { λ _. ⌜ now (numbers .exit) ≡ withNumbers (now (numbers .entry)) at first second third ⌝ }
+fn put_row(numbers: &mut [u64], at: usize, row: &[u64])
+    requires { ⌜ at + length (now row) ≤ length (now numbers) ⌝ }
+    ensures { λ _. ⌜ now (numbers .exit) ≡ sets (now (numbers .entry)) at (now (row .entry)) ⌝ }
 {
-    numbers[at] = first;
-    numbers[at + 1] = second;
-    numbers[at + 2] = third;
+    let n = row.len();
+    let mut k = 0;
+    while k < n {
+        numbers[at + k] = row[k];
+        k += 1;
+    }
 }
 
 // The lines of an order: each level from 0, its task and that task's response.
@@ -67,13 +76,12 @@ fn level_lines(
 )
     requires { ⌜ n ≤ maxTasks ⌝ }
     requires { ⌜ maxNumbers ≤ length (now numbers) ⌝ }
-    ensures { λ _. ⌜ HasLines (levelLines order responses n) (now (numbers .exit)) ⌝ }
+    ensures { λ _. ⌜ HasLines width (levelLines order responses n) (now (numbers .exit)) ⌝ }
 {
     let mut k = 0;
     while k < n {
-        let task = order[k].0 as u64;
-        let response = responses[k];
-        put_numbers(numbers, WIDTH * k, k as u64, task, response);
+        let row = [k as u64, order[k].0 as u64, responses[k]];
+        put_row(numbers, WIDTH * k, &row);
         k += 1;
     }
 }
@@ -83,7 +91,7 @@ fn rule_lines(core: [bool; MAX_RULES], rules: &[u64], numbers: &mut [u64]) -> us
     requires { ⌜ length (rulesIn (now rules)) ≤ maxRules ⌝ }
     requires { ⌜ maxNumbers ≤ length (now numbers) ⌝ }
     ensures { λ r. ⌜ r ≡ length (linesBelow (marked core) (ruleLine (rulesIn (now (rules .entry)))) (length (rulesIn (now (rules .entry))))) ⌝ }
-    ensures lines { λ r. ⌜ HasLines (linesBelow (marked core) (ruleLine (rulesIn (now (rules .entry))))
+    ensures lines { λ r. ⌜ HasLines width (linesBelow (marked core) (ruleLine (rulesIn (now (rules .entry))))
         (length (rulesIn (now (rules .entry))))) (now (numbers .exit)) ⌝ }
 {
     let n = rules.len() / RULE_WORDS;
@@ -92,13 +100,33 @@ fn rule_lines(core: [bool; MAX_RULES], rules: &[u64], numbers: &mut [u64]) -> us
     while k < n {
         if core[k] {
             let rule = rule_in(rules, k);
-            put_numbers(
-                numbers,
-                WIDTH * count,
-                k as u64,
-                rule.higher.0 as u64,
-                rule.lower.0 as u64,
-            );
+            let row = [k as u64, rule.higher.0 as u64, rule.lower.0 as u64];
+            put_row(numbers, WIDTH * count, &row);
+            count += 1;
+        }
+        k += 1;
+    }
+    count
+}
+
+// The late lines under a core of so many rules, none unless it is empty: each task left, rising, with its response; and how many
+// they are.
+fn late_lines(rules: usize, left: [bool; MAX_TASKS], rows: &[u64], numbers: &mut [u64]) -> usize
+    requires { ⌜ SoundTasks (tasksIn (now rows)) ⌝ }
+    requires { ⌜ maxLate ≤ length (now numbers) ⌝ }
+    ensures { λ r. ⌜ r ≡ length (lateUnder rules (tasksIn (now (rows .entry))) (marked left)) ⌝ }
+    ensures lines { λ r. ⌜ HasLines lateWidth (lateUnder rules (tasksIn (now (rows .entry))) (marked left)) (now (numbers .exit)) ⌝ }
+{
+    if rules != 0 {
+        return 0;
+    }
+    let n = rows.len() / TASK_WORDS;
+    let mut count = 0;
+    let mut k = 0;
+    while k < n {
+        if left[k] {
+            let row = [k as u64, late_response(rows, left, TaskIndex(k))];
+            put_row(numbers, LATE_WIDTH * count, &row);
             count += 1;
         }
         k += 1;
@@ -107,40 +135,48 @@ fn rule_lines(core: [bool; MAX_RULES], rules: &[u64], numbers: &mut [u64]) -> us
 }
 
 // Writes a listing where there is room: 9 where there isn't, which is known before the first byte is written.
-fn write(head: &[u8], numbers: &[u64], out: &mut [u8]) -> Shown
+fn write(head: &[u8], numbers: &[u64], late: &[u64], out: &mut [u8]) -> Shown
     requires { ⌜ length (now head) ≤ maxHead ⌝ }
     requires { ⌜ length (now numbers) ≤ maxNumbers ⌝ }
+    requires { ⌜ length (now late) ≤ maxLate ⌝ }
     ensures { λ r. ⌜ r ≡ shownAs (fitted (length (now (out .entry)))
-        (shown (listingWith (now (head .entry)) (chunks width (now (numbers .entry)))))) ⌝ }
+        (shown (listingWith (now (head .entry)) (chunks width (now (numbers .entry))) (chunks lateWidth (now (late .entry)))))) ⌝ }
     ensures bytes { λ r. ⌜ now (out .exit) ≡ bufferAfter (fitted (length (now (out .entry)))
-        (shown (listingWith (now (head .entry)) (chunks width (now (numbers .entry)))))) (now (out .entry)) ⌝ }
+        (shown (listingWith (now (head .entry)) (chunks width (now (numbers .entry))) (chunks lateWidth (now (late .entry)))))) (now (out .entry)) ⌝ }
 {
     let n = numbers.len() / WIDTH;
     let count = [n as u64];
-    let size = line_size(head.len(), &count) + lines_size(0, WIDTH, numbers);
+    let word = b"late\t";
+    let size = line_size(head.len(), &count)
+        + lines_size(0, WIDTH, numbers)
+        + lines_size(word.len(), LATE_WIDTH, late);
     if out.len() < size {
         return Shown {
             refusal: 9,
             count: 0,
         };
     }
-    let at = put_line(out, head, &count);
-    put_lines(&mut out[at..], b"", WIDTH, numbers);
+    let mut at = put_line(out, head, &count);
+    at += put_lines(&mut out[at..], b"", WIDTH, numbers);
+    put_lines(&mut out[at..], word, LATE_WIDTH, late);
     Shown {
         refusal: 0,
         count: size,
     }
 }
 
-// Shows a verdict on the lists in two slices of words: a refusal by its number, else the listing, or 9.
-pub fn show(verdict: Verdict, rows: &[u64], rules: &[u64], out: &mut [u8]) -> Shown
-    requires { ⌜ length (tasksIn (now rows)) ≤ maxTasks ⌝ }
-    requires { ⌜ length (rulesIn (now rules)) ≤ maxRules ⌝ }
-    ensures { λ r. ⌜ r ≡ shownAs (fitted (length (now (out .entry))) (outcome (listsIn (now (rows .entry)) (now (rules .entry))) verdict)) ⌝ }
+// Shows what was decided on the lists in two slices of words: a refusal by its number, else the listing, or 9.
+pub fn show(decided: Decided, rows: &[u64], rules: &[u64], out: &mut [u8]) -> Shown
+    requires { ⌜ Sound (listsIn (now rows) (now rules)) ⌝ }
+    requires { ⌜ marked (decided .left) ≡ unassignable (listsIn (now rows) (now rules)) ⌝ }
+    ensures { λ r. ⌜ r ≡ shownAs (fitted (length (now (out .entry)))
+        (outcome (listsIn (now (rows .entry)) (now (rules .entry))) (decided .verdict))) ⌝ }
     ensures bytes { λ r. ⌜ now (out .exit) ≡ bufferAfter (fitted (length (now (out .entry)))
-        (outcome (listsIn (now (rows .entry)) (now (rules .entry))) verdict)) (now (out .entry)) ⌝ }
+        (outcome (listsIn (now (rows .entry)) (now (rules .entry))) (decided .verdict))) (now (out .entry)) ⌝ }
 {
     let mut numbers = [0u64; WIDTH * MAX_RULES];
+    let mut late = [0u64; LATE_WIDTH * MAX_TASKS];
+    let verdict = decided.verdict;
     let answer = verdict.answer;
     match answer {
         Answer::Refused(refusal) => Shown { refusal, count: 0 },
@@ -149,12 +185,19 @@ pub fn show(verdict: Verdict, rows: &[u64], rules: &[u64], out: &mut [u8]) -> Sh
             let order = verdict.order;
             let responses = verdict.responses;
             level_lines(order, responses, n, &mut numbers);
-            write(b"order\t", &numbers[..WIDTH * n], out)
+            write(b"order\t", &numbers[..WIDTH * n], &late[..0], out)
         }
         Answer::Core => {
             let core = verdict.core;
+            let left = decided.left;
             let count = rule_lines(core, rules, &mut numbers);
-            write(b"core\t", &numbers[..WIDTH * count], out)
+            let tasks = late_lines(count, left, rows, &mut late);
+            write(
+                b"core\t",
+                &numbers[..WIDTH * count],
+                &late[..LATE_WIDTH * tasks],
+                out,
+            )
         }
     }
 }
@@ -181,7 +224,7 @@ pub fn list(set: TaskSet, out: &mut [u8]) -> Listed
     write_words(set, &mut tasks, &mut list);
     let rows = &tasks[..TASK_WORDS * set.ntasks];
     let rules = &list[..RULE_WORDS * set.nrules];
-    let verdict = decide(rows, rules);
-    let shown = show(verdict, rows, rules, out);
+    let decided = decide(rows, rules);
+    let shown = show(decided, rows, rules, out);
     Listed { shown, set }
 }

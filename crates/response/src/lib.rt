@@ -8,6 +8,7 @@ ghost use Rattle.taskset.specs.Refusals.{maxTasks, maxPeriod, InRanges};
 ghost use Rattle.taskset.specs.Model.{taskAt, SoundTasks};
 ghost use Rattle.taskset.specs.Words.{tasksIn};
 ghost use Rattle.response.specs.Equation.{ceil, interference, windowOf, responseTime, SaysResponse};
+ghost use Rattle.response.specs.Timing.{timing, SaysTiming, reported};
 ghost use Rattle.response.specs.Load.{Bounds, IsLoad, loadDemand, shareOf, StandsFor, scale, partOf, boundOf};
 use taskset::MAX_PERIOD;
 use taskset::MAX_TASKS;
@@ -42,6 +43,13 @@ pub enum Window {
 pub enum Response {
     Within(u64),
     Late,
+}
+
+// The response of a task up to its period: one that meets its deadline, one that misses it, or that none lies within the period.
+pub enum Timing {
+    Meets(u64),
+    Misses(u64),
+    PastPeriod,
 }
 
 // ⌈x / t⌉
@@ -262,4 +270,32 @@ pub fn response_time(
         return Response::Late;
     };
     Response::Within(own.jitter + w)
+}
+
+// The response of a task with the marked tasks above it, up to its period, and whether it meets its deadline.
+pub fn timing_of(rows: &[u64], task: TaskIndex, above: [bool; MAX_TASKS]) -> Timing
+    requires { ⌜ SoundTasks (tasksIn (now rows)) ⌝ }
+    requires { ⌜ task .0 < length (tasksIn (now rows)) ⌝ }
+    ensures { λ r. ⌜ r ≡ timing (tasksIn (now (rows .entry))) (task .0) (marked above) ⌝ }
+    ensures says { λ r. ⌜ SaysTiming (tasksIn (now (rows .entry))) (task .0) (marked above) r ⌝ }
+{
+    let own = task_in(rows, task.0);
+    let Response::Within(response) = response_time(rows, task, above, own.period) else {
+        return Timing::PastPeriod;
+    };
+    if response <= own.deadline {
+        return Timing::Meets(response);
+    }
+    Timing::Misses(response)
+}
+
+// The response as document 02 reports it: 0 where none lies within the period.
+pub fn reported(t: Timing) -> u64
+    ensures { λ r. ⌜ r ≡ reported t ⌝ }
+{
+    match t {
+        Timing::Meets(response) => response,
+        Timing::Misses(response) => response,
+        Timing::PastPeriod => 0,
+    }
 }

@@ -9,22 +9,22 @@ use native.Mathlib.Omega.{arith}
 use lib.Dec.{T, eqb}
 use borrow.Author.Tests.{eqb-true}
 use lib.ListN.{length, set, replicate, length-set}
-use Rattle.sets.specs.Marks.{first, marked, marked-none, marked-store, marked-without}
+use Rattle.sets.specs.Marks.{first, marked, marked-none, marked-store, marked-without, table-is}
 use Rattle.sets.specs.Choice.{pick, T→true, refuted→false}
 use Rattle.sets.specs.Bounded.{Subset, without, without-still}
 use Rattle.taskset.specs.Refusals.{maxRules}
-use Rattle.taskset.specs.Model.{ruleAt}
+use Rattle.taskset.specs.Model.{Lists, ruleAt, Sound}
 use Rattle.assignment.specs.declared.Search.{Search}
 use Rattle.assignment.specs.declared.Hints.{Hints}
-use Rattle.assignment.specs.Audsley.{Problem, withoutRules, feasible, Stuck}
+use Rattle.assignment.specs.Audsley.{Problem, withoutRules, feasible, Stuck, problem}
 use Rattle.assignment.specs.Decision.{Lawful, stuck-without, feasible-fewer}
 use Rattle.assignment.specs.Search.{Searched, Ended, Helps}
 use Rattle.assignment.specs.Filling.{ended-decides, searched-fewer}
 use Rattle.assignment.specs.Hints.{searched-bare}
 use Rattle.verdict.specs.declared.Cut.{Cut}
 use Rattle.verdict.specs.Core.{tried, staying, coreOf}
-use Rattle.verdict.specs.CoreLaws.{core-hopeless}
-use Rattle.verdict.specs.Cut.{Cutting}
+use Rattle.verdict.specs.CoreLaws.{core-beyond, core-hopeless}
+use Rattle.verdict.specs.Cut.{Cutting, coreMarks}
 
 -- ---- a rule tried
 
@@ -167,3 +167,13 @@ module _ (p : Problem) (lawful : Lawful p) (n : ℕ) where
       none
       ∙ core-hopeless (feasible p) (length (p .rules)) (λ B A fewer. feasible-fewer p B A fewer lawful)
       (λ t. more (ended-decides p (marked (replicate n false)) lawful s ended .1 (subst (λ (f : ℕ → Bool). T (feasible p f)) (sym none) t)))
+
+-- ---- when it is done
+
+-- an array that has the core's marks has them alone
+pub core-marked : (l : Lists) → Sound l → (marks : List Bool) → length marks ≡ maxRules
+    → marked marks ≡ coreOf (feasible (problem l)) (length (l .rules)) → marks ≡ coreMarks l
+core-marked l sound marks long e =
+    let m = length (l .rules) in
+    let test = feasible (problem l) in
+    table-is maxRules m (coreOf test m) marks long (sound .few-rules) e (core-beyond test m)

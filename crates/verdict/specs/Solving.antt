@@ -9,7 +9,7 @@ use lib.ListN.{length, getD, replicate, drop, length-map}
 use lib.Seq.{ext-getD}
 use borrow.Author.Tests.{eq-eqb, ne-eqb}
 use Rattle.sets.specs.Pad.{pad, map-at}
-use Rattle.sets.specs.Marks.{first, marked, table-is}
+use Rattle.sets.specs.Marks.{first}
 use Rattle.taskset.specs.declared.TaskIndex.{TaskIndex}
 use Rattle.taskset.specs.declared.TaskSet.{TaskSet}
 use Rattle.taskset.specs.Refusals.{maxTasks, maxRules}
@@ -27,7 +27,7 @@ use Rattle.verdict.specs.declared.Answer.the-variants.{Order, Core}
 use Rattle.verdict.specs.declared.Solved.{Solved}
 use Rattle.verdict.specs.declared.Verdict.{Verdict}
 use Rattle.verdict.specs.Core.{coreOf}
-use Rattle.verdict.specs.CoreLaws.{core-beyond}
+use Rattle.verdict.specs.Cut.{coreMarks}
 use Rattle.verdict.specs.Verdict.{refused, responsesIn, verdictBy, verdictOn, deciding, solving}
 
 -- ---- refused or decided
@@ -116,11 +116,9 @@ module _ (l : Lists) (sound : Sound l) (active : ℕ → Bool) where
         ∙ ap (pad maxTasks 0) (responses-in whole (holds .long)))
         ∙ verdict-is true (eq-eqb (length order) n whole)
 
-    pub gives-core : (s .free ≡ 0 → ⊥) → (marks : List Bool) → length marks ≡ maxRules → marked marks ≡ coreOf test (length (l .rules))
+    pub gives-core : (s .free ≡ 0 → ⊥) → (marks : List Bool) → marks ≡ coreMarks l
         → record { answer = Core; order = replicate maxTasks (index 0); responses = replicate maxTasks 0; core = marks } ≡ verdictOn l
     unfolding feasible
-    gives-core more marks long e =
-        let m = length (l .rules) in
-        ap (λ (c : List Bool). record { answer = Core; order = replicate maxTasks (index 0); responses = replicate maxTasks 0; core = c })
-        (table-is maxRules m (coreOf test m) marks long (sound .few-rules) e (core-beyond test m))
+    gives-core more marks e =
+        ap (λ (c : List Bool). record { answer = Core; order = replicate maxTasks (index 0); responses = replicate maxTasks 0; core = c }) e
         ∙ verdict-is false (ne-eqb (length order) n (λ h. more (omega (arith, h, holds .free))))

@@ -9,13 +9,14 @@ ghost use Rattle.taskset.specs.Refusals.{maxRules};
 ghost use Rattle.taskset.specs.Model.{Sound};
 ghost use Rattle.taskset.specs.Adding.{lists};
 ghost use Rattle.taskset.specs.Words.{tasksIn, rulesIn, listsIn};
+ghost use Rattle.assignment.specs.LateTasks.{unassignable};
 ghost use Rattle.assignment.specs.Audsley.{feasible, problem};
 ghost use Rattle.assignment.specs.Search.{Ended};
 ghost use Rattle.verdict.specs.Core.{tried, coreOf};
 ghost use Rattle.verdict.specs.Verdict.{refused, deciding, solving};
 ghost use Rattle.verdict.specs.Correct.{Correct, Explains};
 ghost use Rattle.verdict.specs.OneOrder.{OneOrder};
-ghost use Rattle.verdict.specs.Cut.{Cutting};
+ghost use Rattle.verdict.specs.Cut.{Cutting, coreMarks};
 use assignment::Hints;
 use assignment::Search;
 use assignment::fill_levels;
@@ -47,6 +48,12 @@ pub struct Verdict {
     pub core: [bool; MAX_RULES],
 }
 
+// A verdict on two lists, and the tasks left without a level where no rule is active.
+pub struct Decided {
+    pub verdict: Verdict,
+    pub left: [bool; MAX_TASKS],
+}
+
 // What solving a set hands over: the verdict, and the set as it was.
 pub struct Solved {
     pub verdict: Verdict,
@@ -60,6 +67,12 @@ pub struct Cut {
     pub stuck: Search,
     pub known: [bool; MAX_TASKS],
     pub other: Search,
+}
+
+// Why there is no order: the core, and the tasks left without a level where no rule is active.
+pub struct Unschedulable {
+    pub core: [bool; MAX_RULES],
+    pub left: [bool; MAX_TASKS],
 }
 
 // Marks for the first m rules.
@@ -133,20 +146,21 @@ fn cut_down(rows: &[u64], rules: &[u64], start: Cut) -> [bool; MAX_RULES]
     cut.active
 }
 
-// The core, from where the search with every rule got stuck: empty where the search gets stuck without rules too.
-fn core(rows: &[u64], rules: &[u64], active: [bool; MAX_RULES], stuck: Search) -> [bool; MAX_RULES]
+// The core, from where the search with every rule got stuck: empty where the search gets stuck without rules too. And the tasks
+// that the search without rules leaves.
+fn core(rows: &[u64], rules: &[u64], active: [bool; MAX_RULES], stuck: Search) -> Unschedulable
     requires { ⌜ Sound (listsIn (now rows) (now rules)) ⌝ }
     requires { ⌜ marked active ≡ first (length (rulesIn (now rules))) ⌝ }
     requires { ⌜ Ended (problem (listsIn (now rows) (now rules))) (marked active) stuck ⌝ }
     requires { ⌜ 1 ≤ stuck .free ⌝ }
-    ensures { λ r. ⌜ marked r ≡ coreOf (feasible (problem (listsIn (now (rows .entry)) (now (rules .entry)))))
-        (length (rulesIn (now (rules .entry)))) ⌝ }
+    ensures { λ r. ⌜ r .core ≡ coreMarks (listsIn (now (rows .entry)) (now (rules .entry))) ⌝ }
+    ensures left { λ r. ⌜ marked (r .left) ≡ unassignable (listsIn (now (rows .entry)) (now (rules .entry))) ⌝ }
 {
     let none = [false; MAX_RULES];
-    if rules.len() < RULE_WORDS {
-        return none;
-    }
     let left = stuck.left;
+    if rules.len() < RULE_WORDS {
+        return Unschedulable { core: none, left };
+    }
     let given = true;
     let known = passing(rows, left, given);
     let hints = Hints {
@@ -155,8 +169,9 @@ fn core(rows: &[u64], rules: &[u64], active: [bool; MAX_RULES], stuck: Search) -
         other: stuck,
     };
     let other = fill_levels(rows, rules, none, hints, stuck);
+    let rest = other.left;
     if other.free == 0 {
-        return cut_down(
+        let needed = cut_down(
             rows,
             rules,
             Cut {
@@ -166,8 +181,15 @@ fn core(rows: &[u64], rules: &[u64], active: [bool; MAX_RULES], stuck: Search) -
                 other,
             },
         );
+        return Unschedulable {
+            core: needed,
+            left: rest,
+        };
     }
-    none
+    Unschedulable {
+        core: none,
+        left: rest,
+    }
 }
 
 // Refused by a number: the lists are all 0 and no.
@@ -185,34 +207,48 @@ fn refused(number: u64) -> Verdict
     }
 }
 
-// The verdict on the lists in two slices of words: refusal 13, then an order or a core.
-pub fn decide(rows: &[u64], rules: &[u64]) -> Verdict
+// The verdict on the lists in two slices of words: refusal 13, then an order or a core. And who is left without a level where no
+// rule is active.
+pub fn decide(rows: &[u64], rules: &[u64]) -> Decided
     requires { ⌜ Sound (listsIn (now rows) (now rules)) ⌝ }
-    ensures { λ r. ⌜ r ≡ deciding (listsIn (now (rows .entry)) (now (rules .entry))) ⌝ }
-    ensures says { λ r. ⌜ (1 ≤ length (tasksIn (now (rows .entry))) → Correct (listsIn (now (rows .entry)) (now (rules .entry))) r) ⌝ }
-    ensures oneOrder { λ r. ⌜ OneOrder (listsIn (now (rows .entry)) (now (rules .entry))) r ⌝ }
+    ensures { λ r. ⌜ r .verdict ≡ deciding (listsIn (now (rows .entry)) (now (rules .entry))) ⌝ }
+    ensures left { λ r. ⌜ marked (r .left) ≡ unassignable (listsIn (now (rows .entry)) (now (rules .entry))) ⌝ }
+    ensures says { λ r. ⌜ (1 ≤ length (tasksIn (now (rows .entry))) → Correct (listsIn (now (rows .entry)) (now (rules .entry))) (r .verdict)) ⌝ }
+    ensures oneOrder { λ r. ⌜ OneOrder (listsIn (now (rows .entry)) (now (rules .entry))) (r .verdict) ⌝ }
 {
     if rows.len() < TASK_WORDS {
-        return refused(13);
+        return Decided {
+            verdict: refused(13),
+            left: [false; MAX_TASKS],
+        };
     }
     let active = first(rules.len() / RULE_WORDS);
     let found = trial(rows, rules, active);
     let order = found.order;
     let responses = found.responses;
+    let left = found.left;
     if found.free == 0 {
-        return Verdict {
-            answer: Answer::Order,
-            order,
-            responses,
-            core: [false; MAX_RULES],
+        return Decided {
+            verdict: Verdict {
+                answer: Answer::Order,
+                order,
+                responses,
+                core: [false; MAX_RULES],
+            },
+            left,
         };
     }
-    let core = core(rows, rules, active, found);
-    Verdict {
-        answer: Answer::Core,
-        order: [TaskIndex(0); MAX_TASKS],
-        responses: [0; MAX_TASKS],
-        core,
+    let none = core(rows, rules, active, found);
+    let core = none.core;
+    let left = none.left;
+    Decided {
+        verdict: Verdict {
+            answer: Answer::Core,
+            order: [TaskIndex(0); MAX_TASKS],
+            responses: [0; MAX_TASKS],
+            core,
+        },
+        left,
     }
 }
 
@@ -233,6 +269,7 @@ pub fn solve(set: TaskSet) -> Solved
     write_words(set, &mut rows, &mut rules);
     let n = TASK_WORDS * set.ntasks;
     let m = RULE_WORDS * set.nrules;
-    let verdict = decide(&rows[..n], &rules[..m]);
+    let decided = decide(&rows[..n], &rules[..m]);
+    let verdict = decided.verdict;
     Solved { verdict, set }
 }

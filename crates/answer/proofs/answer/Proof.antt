@@ -88,7 +88,7 @@ decide-requires : tie.Need-decide-requires
 decide-requires c κs = sound (lent c)
 
 show-requires : tie.Need-show-requires
-show-requires c κs = let ok = sound (lent (c .before .before)) in (ok .tasks .few, ok .few-rules)
+show-requires c κs = let decided = c .before in (sound (lent (decided .before)), decided .decide .ensures .1 .0)
 
 same-length : tie.Need-same-length
 same-length c = search needs

@@ -2,6 +2,7 @@
 use mathlib.Core.Path.{_≡_, refl, sym, subst, _∙_}
 use Prim.Native.Nat.{_+_, _-_, _*_, _≤_}
 use native.Mathlib.Omega.{arith}
+use borrow.Author.Needs.{needs}
 use lib.ListN.{length}
 use Rattle.listing.specs.Numbers.{width, HasLines, levelLines}
 use Rattle.listing.specs.NumbersLaws.{has-none, has-in, lines-length-all}
@@ -10,7 +11,7 @@ use Rattle.listing.proofs.level_lines.Tie as tie
 
 abbrev Inv-loop : tie.InvT-loop
 Inv-loop n numbers₀ order responses k₀ numbers k =
-    (k ≤ n) × (length numbers ≡ length numbers₀) × HasLines (levelLines order responses k) numbers
+    (k ≤ n) × (length numbers ≡ length numbers₀) × HasLines width (levelLines order responses k) numbers
 
 abbrev μ-loop : tie.MeasureT-loop
 μ-loop n numbers₀ order responses k₀ numbers k = n - k
@@ -21,32 +22,32 @@ start c = c .before .before .before
 
 -- and where one ended, after its line was written
 abbrev turn : tie.After-slice-known2 Inv-loop μ-loop → tie.In-loop Inv-loop μ-loop
-turn c = let put = c .before .before in put .before .before
+turn c = let put = c .before .before in put .before .before .before
 
 -- there is room for the next line
 room : (c : tie.In-loop Inv-loop μ-loop) → let at = c .before .loop in width * at .k + width ≤ length (at .numbers)
 room c = let at = c .before .loop in omega (arith, at .inv .1, start c .pre .0, start c .pre .1)
 
 loop-holds : tie.Need-loop-holds Inv-loop μ-loop
-loop-holds c = (omega arith, refl, has-none _ _ _ _)
+loop-holds c = (omega arith, refl, has-none _ _ width _)
 
-mul-task : tie.Need-mul-task Inv-loop μ-loop
-mul-task c = omega (arith, start c .pre .0)
+mul-t11 : tie.Need-mul-t11 Inv-loop μ-loop
+mul-t11 c = omega (arith, start c .pre .0)
 
-element-copy-out-task : tie.Need-element-copy-out-task Inv-loop μ-loop
-element-copy-out-task c = omega (arith, start c .pre .0)
+element-copy-out-t14 : tie.Need-element-copy-out-t14 Inv-loop μ-loop
+element-copy-out-t14 c = omega (arith, start c .pre .0)
 
-mul-response : tie.Need-mul-response Inv-loop μ-loop
-mul-response c = omega (arith, start c .pre .0)
+mul-t16 : tie.Need-mul-t16 Inv-loop μ-loop
+mul-t16 c = omega (arith, start c .pre .0)
 
-array-read-response : tie.Need-array-read-response Inv-loop μ-loop
-array-read-response c = omega (arith, start c .pre .0)
+array-read-t19 : tie.Need-array-read-t19 Inv-loop μ-loop
+array-read-t19 c = omega (arith, start c .pre .0)
 
-mul-put-numbers : tie.Need-mul-put-numbers Inv-loop μ-loop
-mul-put-numbers c = omega (arith, start (c .before) .pre .0)
+mul-put-row : tie.Need-mul-put-row Inv-loop μ-loop
+mul-put-row c = omega (arith, start (c .before) .pre .0)
 
-put-numbers-requires : tie.Need-put-numbers-requires Inv-loop μ-loop
-put-numbers-requires c κs = room (c .before)
+put-row-requires : tie.Need-put-row-requires Inv-loop μ-loop
+put-row-requires c κs = room (c .before .before)
 
 add-k : tie.Need-add-k Inv-loop μ-loop
 add-k c = omega (arith, start (turn c) .pre .0)
@@ -62,9 +63,9 @@ loop-again c =
     let lines = levelLines (s .args .t1) (s .args .t2) in
     let count = sym (lines-length-all _ (at .k)) in (
       omega arith,
-      put .put-numbers .kept .0 ∙ at .inv .1,
-      subst (HasLines (lines (at .k + 1))) (sym (put .put-numbers .ensures))
-          (has-in _ _ _ (at .numbers) (at .k) (at .k) count (omega (arith, s .pre .0)) (omega (arith, at .inv .1, s .pre .1)) refl (at .inv .2) .1),
+      put .put-row .kept .0 ∙ at .inv .1,
+      subst (HasLines width (lines (at .k + 1))) (sym (put .put-row .ensures))
+          (has-in _ _ width (λ k. refl) (at .numbers) (at .k) (at .k) count (room (turn c)) refl (at .inv .2) .1),
     )
 
 same-length : tie.Need-same-length Inv-loop μ-loop
@@ -84,12 +85,13 @@ level-lines-spec =
     Inv-loop
     μ-loop
     loop-holds
-    mul-task
-    element-copy-out-task
-    mul-response
-    array-read-response
-    mul-put-numbers
-    put-numbers-requires
+    mul-t11
+    element-copy-out-t14
+    mul-t16
+    array-read-t19
+    mul-put-row
+    (λ c. search needs)
+    put-row-requires
     add-k
     loop-less
     loop-again

@@ -103,7 +103,7 @@ decide-requires : tie.Need-decide-requires
 decide-requires c κs = let lent = c .before in sound (written (lent .before .before))
 
 show-requires : tie.Need-show-requires
-show-requires c κs = let ok = sound (decided (c .before)) in (ok .tasks .few, ok .few-rules)
+show-requires c κs = let d = c .before in (sound (decided d), d .decide .ensures .1 .0)
 
 same-length : tie.Need-same-length
 same-length c = search needs

@@ -8,13 +8,13 @@ use denote.Ref.{now}
 use lib.ListN.{length, length-append}
 use Rattle.sets.specs.Onto.{Front, withTail, front-in, tail-room, tail-back}
 use Rattle.lines.specs.Line.{line, linesOf, chunks}
-use Rattle.listing.specs.Listing.{listingWith}
-use Rattle.listing.specs.Numbers.{width}
+use Rattle.listing.specs.Listing.{late, listingWith}
+use Rattle.listing.specs.Numbers.{width, lateWidth}
 use Rattle.listing.specs.Showing.{listing-parts, shows-short, shows-whole}
 use Rattle.listing.proofs.write.Statement.{statement}
 use Rattle.listing.proofs.write.Tie as tie
 
--- the two parts of the listing, and the buffer as it was
+-- the three parts of the listing, and the buffer as it was
 module _ (s : tie.Start) where
   abbrev body : List ℕ
   body = now (s .args .numbers)
@@ -25,15 +25,28 @@ module _ (s : tie.Start) where
   abbrev rest : List ℕ
   rest = linesOf [] (chunks width body)
 
+  abbrev tasks : List ℕ
+  tasks = linesOf late (chunks lateWidth (now (s .args .late)))
+
+  abbrev all : List ℕ
+  all = top ++ rest ++ tasks
+
   abbrev was : List ℕ
   was = now (s .args .out)
 
-  whole : top ++ rest ≡ listingWith (now (s .args .head)) (chunks width body)
-  whole = listing-parts (now (s .args .head)) body
+  whole : all ≡ listingWith (now (s .args .head)) (chunks width body) (chunks lateWidth (now (s .args .late)))
+  whole = listing-parts (now (s .args .head)) body (now (s .args .late))
+
+  parts : length all ≡ length top + length rest + length tasks
+  parts = omega (arith, length-append (top ++ rest) tasks, length-append top rest)
 
 -- the places: the start, the sizes, the head line written, and the others
-abbrev begun : tie.After-lines-size → tie.Start
-begun c = let count = c .before .before in let lent = count .before .before in lent .before .before
+abbrev begun : tie.After-lines-size2 → tie.Start
+begun c =
+    let head = c .before .before in
+    let count = head .before .before in
+    let lent = count .before .before in
+    lent .before .before .before
 
 abbrev fitting : tie.After-put-line → tie.Else1
 fitting c = let lent = c .before in lent .before .before
@@ -41,15 +54,19 @@ fitting c = let lent = c .before in lent .before .before
 abbrev head-put : tie.After-put-lines → tie.After-put-line
 head-put c = let lent = c .before .before in let known = lent .before in known .before .before
 
-sized : (c : tie.After-lines-size) → let s = begun c in
-    c .before .line-size .result + c .lines-size .result ≡ length (top s ++ rest s)
+abbrev lines-put : tie.After-put-lines2 → tie.After-put-lines
+lines-put c = let lent = c .before .before in let known = lent .before in known .before .before
+
+sized : (c : tie.After-lines-size2) → let s = begun c in
+    c .before .before .line-size .result + c .before .lines-size .result + c .lines-size2 .result ≡ length (all s)
 sized c =
     let s = begun c in
     omega (
       arith,
-      length-append (top s) (rest s),
-      c .before .line-size .ensures .0 (now (s .args .head)) refl,
-      c .lines-size .ensures .0 [] refl,
+      parts s,
+      c .before .before .line-size .ensures .0 (now (s .args .head)) refl,
+      c .before .lines-size .ensures .0 [] refl,
+      c .lines-size2 .ensures .0 late refl,
     )
 
 -- what is written after each call
@@ -57,36 +74,27 @@ head-in : (c : tie.After-put-line) → let s = begun (fitting c .before) in
     Front (top s) (was s) (c .put-line .result) (c .put-line .last .0)
 head-in c = record { count = c .put-line .ensures .0; list = c .put-line .ensures .1 }
 
-all-in : (c : tie.After-put-lines) → let p = head-put c in let s = begun (fitting p .before) in
+lines-in : (c : tie.After-put-lines) → let p = head-put c in let s = begun (fitting p .before) in
     Front (top s ++ rest s) (was s) (p .put-line .result + c .put-lines .result)
     (withTail (p .put-line .result) (p .put-line .last .0) (c .put-lines .last .0))
-all-in c = tail-back (head-in (head-put c)) (record { count = c .put-lines .ensures .0; list = c .put-lines .ensures .1 })
+lines-in c = tail-back (head-in (head-put c)) (record { count = c .put-lines .ensures .0; list = c .put-lines .ensures .1 })
 
-slice-aggregate-line-size : tie.Need-slice-aggregate-line-size
-slice-aggregate-line-size c = search needs
-
-line-size-requires : tie.Need-line-size-requires
-line-size-requires c κs = search needs
-
-lines-size-requires : tie.Need-lines-size-requires
-lines-size-requires c κs = search needs
-
-add-size : tie.Need-add-size
-add-size c = search needs
+all-in : (c : tie.After-put-lines2) → let q = lines-put c in let p = head-put q in let s = begun (fitting p .before) in
+    let at = p .put-line .result + q .put-lines .result in
+    Front (all s) (was s) (at + c .put-lines2 .result)
+    (withTail at (withTail (p .put-line .result) (p .put-line .last .0) (q .put-lines .last .0)) (c .put-lines2 .last .0))
+all-in c = tail-back (lines-in (lines-put c)) (record { count = c .put-lines2 .ensures .0; list = c .put-lines2 .ensures .1 })
 
 returns : tie.Need-returns
 returns c =
     let s = begun (c .before) in
-    rw (← whole s) (shows-short (top s ++ rest s) (was s) (omega (arith, sized (c .before), c .if1 .taken)))
-
-slice-aggregate-put-line : tie.Need-slice-aggregate-put-line
-slice-aggregate-put-line c = search needs
+    rw (← whole s) (shows-short (all s) (was s) (omega (arith, sized (c .before), c .if1 .taken)))
 
 put-line-requires : tie.Need-put-line-requires
 put-line-requires c κs =
     let fit = c .before .before in
     let s = begun (fit .before) in
-    (omega arith, omega (arith, sized (fit .before), length-append (top s) (rest s), fit .if1 .left))
+    (omega arith, omega (arith, sized (fit .before), parts s, fit .if1 .left))
 
 sub-put-lines : tie.Need-sub-put-lines
 sub-put-lines c = front-in (head-in (c .before .before))
@@ -94,44 +102,72 @@ sub-put-lines c = front-in (head-in (c .before .before))
 part-put-lines-start : tie.Need-part-put-lines-start
 part-put-lines-start c = front-in (head-in (c .before .before))
 
-part-put-lines-end : tie.Need-part-put-lines-end
-part-put-lines-end c = search needs
-
-slice-aggregate-put-lines : tie.Need-slice-aggregate-put-lines
-slice-aggregate-put-lines c = search needs
-
 put-lines-requires : tie.Need-put-lines-requires
 put-lines-requires c κs =
     let known = c .before .before in
     let p = known .before .before in
     let fit = fitting p in
-    (omega arith, tail-room (head-in p) (rest (begun (fit .before))) (omega (arith, sized (fit .before), fit .if1 .left)))
+    let s = begun (fit .before) in
+    (omega arith, tail-room (head-in p) (rest s) (omega (arith, sized (fit .before), parts s, length-append (top s) (rest s), fit .if1 .left)))
 
-same-length : tie.Need-same-length
-same-length c = search needs
+add-at : tie.Need-add-at
+add-at c =
+    let put = c .before .before in
+    let size = fitting (head-put put) .before in
+    let s = begun size in
+    omega (
+      arith,
+      lines-in put .count,
+      length-append (top s) (rest s),
+      parts s,
+      sized size,
+      size .before .before .line-size .ensures .1,
+      size .before .lines-size .ensures .1,
+      size .lines-size2 .ensures .1,
+    )
+
+sub-put-lines-2 : tie.Need-sub-put-lines-2
+sub-put-lines-2 c = front-in (lines-in (c .before .before))
+
+part-put-lines-start-2 : tie.Need-part-put-lines-start-2
+part-put-lines-start-2 c = front-in (lines-in (c .before .before))
+
+put-lines-requires-2 : tie.Need-put-lines-requires-2
+put-lines-requires-2 c κs =
+    let known = c .before .before in
+    let put = known .before .before in
+    let fit = fitting (head-put put) in
+    (omega arith, tail-room (lines-in put) (tasks (begun (fit .before))) (omega (arith, sized (fit .before), fit .if1 .left)))
 
 returns-2 : tie.Need-returns-2
 returns-2 c =
     let put = c .before .before in
-    let fit = fitting (head-put put) in
+    let fit = fitting (head-put (lines-put put)) in
     let s = begun (fit .before) in
-    rw (← whole s) (shows-whole (top s ++ rest s) (was s) _ _ (sized (fit .before)) (fit .if1 .left) (all-in put .list))
+    rw (← whole s) (shows-whole (all s) (was s) _ _ (sized (fit .before)) (fit .if1 .left) (all-in put .list))
 
 pub write-spec : {M : Type 1} → statement M
 write-spec =
     tie.close
     (tie.spec
-    slice-aggregate-line-size
-    line-size-requires
-    lines-size-requires
-    add-size
+    (λ c. search needs)
+    (λ c κs. search needs)
+    (λ c κs. search needs)
+    (λ c. search needs)
+    (λ c κs. search needs)
+    (λ c. search needs)
     returns
-    slice-aggregate-put-line
+    (λ c. search needs)
     put-line-requires
     sub-put-lines
     part-put-lines-start
-    part-put-lines-end
-    slice-aggregate-put-lines
+    (λ c. search needs)
+    (λ c. search needs)
     put-lines-requires
-    same-length
+    add-at
+    sub-put-lines-2
+    part-put-lines-start-2
+    (λ c. search needs)
+    put-lines-requires-2
+    (λ c. search needs)
     returns-2)

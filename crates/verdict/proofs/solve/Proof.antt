@@ -103,11 +103,12 @@ decide-requires c κs =
 
 returns-2 : tie.Need-returns-2
 returns-2 c =
-    let lent = c .before in
+    let decided = c .before in
+    let lent = decided .before in
     let w = written (lent .before .before) in
     let s = start (checked w) in
     explained s _
-    (ap (λ (v : Verdict). record { verdict = v; set = s .args .set }) (c .decide .ensures .0 ∙ ap deciding (w .write-words .ensures))
+    (ap (λ (v : Verdict). record { verdict = v; set = s .args .set }) (decided .decide .ensures .0 ∙ ap deciding (w .write-words .ensures))
     ∙ solving-made (s .args .set) (made (checked w)))
 
 pub solve-spec : {M : Type 1} → statement M

@@ -1,0 +1,239 @@
+-- Who is left without a level where no rule is active, for any test that fewer tasks above can't break: the same tasks whichever
+-- of those that may takes each level, for they are the greatest set of tasks of which each fails with the others above it. Then
+-- for document 01's test. Assumes nothing.
+use mathlib.Core.Path.{_≡_, refl, sym, ap, subst, _∙_, fun-ext}
+use mathlib.Core.Bool.{Bool, false}
+use mathlib.Core.List.{List, [], _∷_}
+use mathlib.Core.Logic.{_⊎_, inl, inr, ⊎-elim, _↔_}
+use Prim.Native.Nat.{ℕ, zero, suc, _≤_, _<_, suc-le-suc}
+use native.Mathlib.Nat.{not-suc-le-zero, eq-zero-or-pos}
+use native.Mathlib.Omega.{arith}
+use lib.Dec.{T, eqb, eqb→eq, eqb-refl}
+use lib.ListN.{length, getD, drop, replicate}
+use Rattle.sets.specs.Choice.{same-test, refuted→false}
+use Rattle.sets.specs.Bounded.{Subset, without, without-still, without-other, count, count-some, count-pos}
+use Rattle.sets.specs.Marks.{marked, marked-none}
+use Rattle.taskset.specs.declared.Task.{Task}
+use Rattle.taskset.specs.declared.Rule.{Rule}
+use Rattle.taskset.specs.Refusals.{InRanges}
+use Rattle.taskset.specs.Model.{Lists, taskAt, Sound}
+use Rattle.response.specs.declared.Response.{Response}
+use Rattle.response.specs.declared.Timing.{Timing}
+use Rattle.response.specs.declared.Timing.the-variants.{Meets, Misses, PastPeriod}
+use Rattle.response.specs.Equation.{demand}
+use Rattle.response.specs.Timing.{SaysTiming, timing, upToDeadline, reported}
+use Rattle.response.specs.TimingLaws.{timing-says, timing-stops}
+use Rattle.assignment.specs.declared.Search.{Search}
+use Rattle.assignment.specs.Orders.{noRule, MeetsDeadline, SomeOrder}
+use Rattle.assignment.specs.Canonical.{MayTake}
+use Rattle.assignment.specs.LateTasks.{EndedSearch, CanonicalSearch, AllMiss, LateResponse, LateTasks, unassignable, lateResponse}
+use Rattle.assignment.specs.Audsley.{Problem, Passes, isWithin, unassigned, assign, feasible, Filled, empty, level, Stuck, responseAt, problem}
+use Rattle.assignment.specs.Levels.{unassigned-of, unassigned-is, unassigned-cons, may-other}
+use Rattle.assignment.specs.Decision.{Lawful, test-may, may-test, filled-at, filled-count, assign-ends, feasible-exactly}
+use Rattle.assignment.specs.CanonicalLaws.{assign-greatest}
+use Rattle.assignment.specs.Preemptive.{meets-exactly, lawful, feasible-order}
+use Rattle.assignment.specs.Search.{Ended}
+use Rattle.assignment.specs.Filling.{searched-fewer}
+
+-- ---- a search by its words is one that may have filled its levels so
+
+module _ (p : Problem) (active : ℕ → Bool) where
+  abbrev n : ℕ
+  n = p .tasks
+
+  abbrev EachMay : List ℕ → Type 0
+  EachMay low = (k : ℕ) → k < length low → MayTake (p .rules) (Passes p) active (unassigned n (drop (suc k) low)) (getD low k 0)
+
+  each-filled : (low : List ℕ) → EachMay low → Filled p active low
+  each-filled [] each = empty
+  each-filled (i ∷ low) each =
+      let may = each 0 (omega arith) in
+      level i low (unassigned-is n low i (may .isLeft) .0) (may-test p active (unassigned n low) i may)
+      (each-filled low (λ k h. each (suc k) (suc-le-suc h)))
+
+  filled-may : (low : List ℕ) → Filled p active low → EachMay low
+  filled-may low f k h = test-may p active (unassigned n (drop (suc k) low)) (getD low k 0) (filled-at p active low f k h)
+
+  -- with every level filled nobody is left
+  none-left : (low : List ℕ) → Filled p active low → length low ≡ n → (i : ℕ) → T (unassigned n low i) → ⊥
+  none-left low f whole i t =
+      omega (arith, filled-count p active low f, count-pos n (unassigned n low) i (unassigned-is n low i t .0) t)
+
+  full-stuck : (low : List ℕ) → Filled p active low → length low ≡ n → Stuck p active (unassigned n low)
+  full-stuck low f whole i h t = none-left low f whole i (test-may p active (unassigned n low) i t .isLeft)
+
+-- ---- without rules
+
+module _ (p : Problem) (lawful : Lawful p) where
+  abbrev left : List ℕ → ℕ → Bool
+  left = unassigned (p .tasks)
+
+  -- of tasks that each fail with the others above it none gets a level: the first would pass with all of them above it
+  fail-stay : (set : ℕ → Bool) → AllMiss (p .tasks) (Passes p) set → (low : List ℕ) → Filled p noRule low → Subset (p .tasks) set (left low)
+  fail-stay set fail all empty j h t = unassigned-of (p .tasks) [] j h not-suc-le-zero
+  fail-stay set fail all (level i low inside may f) j h t = go (fail-stay set fail low f)
+    where
+      go : Subset (p .tasks) set (left low) → T (left (i ∷ low) j)
+      go stay =
+          rw (unassigned-cons (p .tasks) low i)
+          (without-other (left low) i j
+          (λ e.
+          let own : T (set i) = subst (λ (k : ℕ). T (set k)) (sym e) t in
+          fail i inside own
+          (lawful .fewer i (without set i) (without (left low) i)
+          (λ k l s. let still = without-still set i k s in without-other (left low) i k (still .1) (stay k l (still .0)))
+          (test-may p noRule (left low) i may .meets)))
+          (stay j h t))
+
+  -- and where the search is stuck those left are such tasks
+  stuck-fail : (rest : ℕ → Bool) → Stuck p noRule rest → AllMiss (p .tasks) (Passes p) rest
+  stuck-fail rest stuck i h t m =
+      stuck i h (may-test p noRule rest i (record { isLeft = t; below = λ k l on. absurd on; meets = m }))
+
+  -- so two searches leave the same
+  pub left-same : (one other : List ℕ) → Filled p noRule one → Filled p noRule other → Stuck p noRule (left one) → Stuck p noRule (left other)
+      → left one ≡ left other
+  left-same one other f g stuck ended =
+      fun-ext (λ j. same-test (left one j) (left other j) (sub one other f g stuck ended j) (sub other one g f ended stuck j))
+    where
+      sub : (a b : List ℕ) → Filled p noRule a → Filled p noRule b → Stuck p noRule (left a) → Stuck p noRule (left b)
+          → (j : ℕ) → T (left a j) → T (left b j)
+      sub a b f g s t j h = fail-stay (left a) (stuck-fail (left a) s) b g j (unassigned-is (p .tasks) a j h .0) h
+
+  -- the assignment's own end
+  abbrev own : List ℕ
+  own = assign p noRule
+
+  own-filled : Filled p noRule own
+  own-filled = assign-ends p noRule .0
+
+  own-stuck : Stuck p noRule (left own)
+  own-stuck = ⊎-elim (full-stuck p noRule own own-filled) (λ stuck. stuck) (assign-ends p noRule .1)
+
+  -- a search in arrays leaves the same
+  pub ended-left : (s : Search) → Ended p noRule s → marked (s .left) ≡ left own
+  ended-left s ended =
+      let held = ended .searched in
+      let low = held .low in
+      let few = filled-count p noRule low (held .filled) in
+      held .holds .left
+      ∙ left-same low own (held .filled) own-filled
+      (⊎-elim (λ z. full-stuck p noRule low (held .filled) (omega (arith, z, held .holds .free, few)))
+      (subst (Stuck p noRule) (held .holds .left)) (ended .ends)) own-stuck
+
+  -- also one with rules, where every level is filled or no rule is active
+  pub ended-none : (active : ℕ → Bool) (s : Search) → Ended p active s → (s .free ≡ 0) ⊎ ((k : ℕ) → k < length (p .rules) → T (active k) → ⊥)
+      → Ended p noRule s
+  ended-none active s ended so =
+      record {
+        searched = searched-fewer p noRule active (λ k h on. absurd on) s (ended .searched);
+        ends =
+            ⊎-elim (λ z. inl z)
+            (λ none.
+            ⊎-elim (λ z. inl z)
+            (λ stuck. inr (λ i h t.
+            stuck i h
+            (may-test p active (marked (s .left)) i
+            (may-other (λ i above m. m) (λ k l on. absurd (none k l on)) (test-may p noRule (marked (s .left)) i t)))))
+            (ended .ends))
+            so;
+      }
+
+-- ---- by document 01's test
+
+module _ (l : Lists) (sound : Sound l) where
+  abbrev p : Problem
+  p = problem l
+
+  abbrev m : ℕ
+  m = length (l .tasks)
+
+  -- by the words and by the test the same tasks may take a level
+  words-may : {rest : ℕ → Bool} {i : ℕ} → MayTake (l .rules) (Passes p) noRule rest i → MayTake (l .rules) (MeetsDeadline (l .tasks)) noRule rest i
+  words-may = may-other (λ i above. meets-exactly (l .tasks) i above .0) (λ k h on. on)
+
+  test-may-words : {rest : ℕ → Bool} {i : ℕ} → MayTake (l .rules) (MeetsDeadline (l .tasks)) noRule rest i → MayTake (l .rules) (Passes p) noRule rest i
+  test-may-words = may-other (λ i above. meets-exactly (l .tasks) i above .1) (λ k h on. on)
+
+  abbrev low : List ℕ
+  low = assign p noRule
+
+  abbrev rest : ℕ → Bool
+  rest = unassigned m low
+
+  search-is : CanonicalSearch m (l .rules) (MeetsDeadline (l .tasks)) noRule low
+  search-is =
+      record {
+        ends =
+            record {
+              each = λ k h. words-may (filled-may p noRule low (own-filled p (lawful l sound)) k h);
+              nobody = λ i may.
+                  own-stuck p (lawful l sound) i (unassigned-is m low i (may .isLeft) .0) (may-test p noRule rest i (test-may-words may));
+            };
+        greatest = λ k h i may. assign-greatest p noRule k h i (test-may-words may);
+      }
+
+  fails : AllMiss m (Passes p) rest
+  fails = stuck-fail p (lawful l sound) rest (own-stuck p (lawful l sound))
+
+  -- the response that is reported of a task left
+  response-is : (i : ℕ) → T (rest i) → LateResponse (l .tasks) i (without rest i) (lateResponse (l .tasks) rest i)
+  response-is i t =
+      let inside = unassigned-is m low i t .0 in
+      let at = taskAt (l .tasks) i in
+      let above = without rest i in
+      let d = demand (l .tasks) i above in
+      let within : at .deadline ≤ at .period = sound .tasks .each i inside .deadline .1 in
+      go (timing (l .tasks) i above) (timing-says d (at .jitter) (at .deadline) (at .period))
+      (λ s. fails i inside t (subst (λ (a : Response). T (isWithin a)) (sym (timing-stops d (at .jitter) (at .deadline) (at .period) within)) s))
+    where
+      go : (a : Timing) → SaysTiming (l .tasks) i (without rest i) a → (T (isWithin (upToDeadline a)) → ⊥)
+          → LateResponse (l .tasks) i (without rest i) (reported a)
+      go (Meets r) s late = absurd (late tt)
+      go (Misses r) s late = record { some = λ h. s; none = λ z. absurd (omega (arith, s .1, z)) }
+      go PastPeriod s late = record { some = λ h. absurd (omega arith); none = λ z. s }
+
+  some-left : ((i : ℕ) × T (rest i)) ↔ (SomeOrder l noRule → ⊥)
+  unfolding feasible
+  some-left =
+      let few = filled-count p noRule low (own-filled p (lawful l sound)) in
+      let f = feasible-order l sound noRule in (
+        λ s o. none-left p noRule low (own-filled p (lawful l sound)) (eqb→eq (length low) m (f .1 o)) (s .0) (s .1),
+        λ none.
+            ⊎-elim
+            (λ z. absurd (none (f .0 (subst (λ (k : ℕ). T (eqb k m)) (omega arith) (eqb-refl m)))))
+            (λ some. let i = count-some m rest some in (i .0, i .2))
+            (eq-zero-or-pos (count m rest)),
+      )
+
+  pub late-tasks : LateTasks l (unassignable l) (lateResponse (l .tasks) (unassignable l))
+  unfolding unassignable
+  late-tasks =
+      record {
+        search = (low, search-is, refl);
+        every = λ other e.
+            left-same p (lawful l sound) other low (each-filled p noRule other (λ k h. test-may-words (e .each k h)))
+            (own-filled p (lawful l sound)) (λ i h t. e .nobody i (words-may (test-may p noRule (unassigned m other) i t)))
+            (own-stuck p (lawful l sound));
+        misses = λ i h t meets. fails i h t (meets-exactly (l .tasks) i (without rest i) .1 meets);
+        greatest = λ set miss.
+            fail-stay p (lawful l sound) set (λ i h t passes. miss i h t (meets-exactly (l .tasks) i (without set i) .0 passes)) low
+            (own-filled p (lawful l sound));
+        some = some-left;
+        responses = response-is;
+      }
+
+  -- the tasks that a search leaves in its array, where every level is filled or no rule is active
+  pub left-unassignable : (active : ℕ → Bool) (s : Search) → Ended p active s → (s .free ≡ 0) ⊎ ((k : ℕ) → k < length (l .rules) → T (active k) → ⊥)
+      → marked (s .left) ≡ unassignable l
+  unfolding unassignable
+  left-unassignable active s ended so = ended-left p (lawful l sound) s (ended-none p (lawful l sound) active s ended so)
+
+-- they are some of its tasks
+pub left-inside : (l : Lists) (i : ℕ) → T (unassignable l i) → i < length (l .tasks)
+unfolding unassignable
+left-inside l i t = unassigned-is (length (l .tasks)) (assign (problem l) noRule) i t .0
+
+-- and none where there is no task
+pub none-unassignable : (l : Lists) → length (l .tasks) ≡ 0 → (k : ℕ) → marked (replicate k false) ≡ unassignable l
+none-unassignable l z k = marked-none k ∙ fun-ext (λ i. sym (refuted→false (unassignable l i) (λ t. omega (arith, left-inside l i t))))

@@ -1,0 +1,55 @@
+-- Document 02, (b): the response search gives any response up to the period, and says if it meets the deadline. First what its
+-- answers mean, as a relation over document 01's; then the same as a function that contracts cite. `TimingLaws` proves that they
+-- agree. Assumes nothing.
+use mathlib.Core.Bool.{Bool}
+use mathlib.Core.List.{List}
+use Prim.Native.Nat.{ℕ, _≤_, _<_}
+use lib.Dec.{leb}
+use Rattle.sets.specs.Choice.{pick}
+use Rattle.taskset.specs.declared.Task.{Task}
+use Rattle.taskset.specs.Model.{taskAt}
+use Rattle.response.specs.declared.Response.{Response}
+use Rattle.response.specs.declared.Response.the-variants.{Within, Late}
+use Rattle.response.specs.declared.Timing.{Timing}
+use Rattle.response.specs.declared.Timing.the-variants.{Meets, Misses, PastPeriod}
+use Rattle.response.specs.Equation.{demand, Says, responseOf}
+
+-- ---- what each answer means
+
+-- a response within the period that meets the deadline, or misses it; or none within the period
+abbrev pub SaysTimingOf : (ℕ → ℕ) → ℕ → ℕ → ℕ → Timing → Type 0
+SaysTimingOf d jitter deadline period (Meets r) = Says d jitter period (Within r) × (r ≤ deadline)
+SaysTimingOf d jitter deadline period (Misses r) = Says d jitter period (Within r) × (deadline < r)
+SaysTimingOf d jitter deadline period PastPeriod = Says d jitter period Late
+
+-- of task i, with the tasks of `above` above it
+abbrev pub SaysTiming : List Task → ℕ → (ℕ → Bool) → Timing → Type 0
+SaysTiming tasks i above =
+    let own = taskAt tasks i in SaysTimingOf (demand tasks i above) (own .jitter) (own .deadline) (own .period)
+
+-- ---- the same as functions
+
+-- by the deadline
+abbrev pub judged : ℕ → Response → Timing
+judged deadline (Within r) = pick (leb r deadline) (Meets r) (Misses r)
+judged deadline Late = PastPeriod
+
+unfoldable pub timingOf : (ℕ → ℕ) → ℕ → ℕ → ℕ → Timing
+timingOf d jitter deadline period = judged deadline (responseOf d jitter period)
+
+abbrev pub timing : List Task → ℕ → (ℕ → Bool) → Timing
+timing tasks i above = let own = taskAt tasks i in timingOf (demand tasks i above) (own .jitter) (own .deadline) (own .period)
+
+-- ---- the values of each answer
+
+-- the response as it is reported: 0, which is no response, where none lies within the period
+abbrev pub reported : Timing → ℕ
+reported (Meets r) = r
+reported (Misses r) = r
+reported PastPeriod = 0
+
+-- what a search that stops at the deadline answers
+abbrev pub upToDeadline : Timing → Response
+upToDeadline (Meets r) = Within r
+upToDeadline (Misses r) = Late
+upToDeadline PastPeriod = Late

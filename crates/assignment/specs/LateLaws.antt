@@ -22,7 +22,7 @@ use Rattle.response.specs.declared.Timing.{Timing}
 use Rattle.response.specs.declared.Timing.the-variants.{Meets, Misses, PastPeriod}
 use Rattle.response.specs.Equation.{demand}
 use Rattle.response.specs.Timing.{SaysTiming, timing, upToDeadline, reported}
-use Rattle.response.specs.TimingLaws.{timing-says, timing-stops}
+use Rattle.response.specs.TimingLaws.{timing-says}
 use Rattle.assignment.specs.declared.Search.{Search}
 use Rattle.assignment.specs.Orders.{noRule, MeetsDeadline, SomeOrder}
 use Rattle.assignment.specs.Canonical.{MayTake}
@@ -32,6 +32,7 @@ use Rattle.assignment.specs.Levels.{unassigned-of, unassigned-is, unassi
 use Rattle.assignment.specs.Decision.{Lawful, test-may, may-test, filled-at, filled-count, assign-ends, feasible-exactly}
 use Rattle.assignment.specs.CanonicalLaws.{assign-greatest}
 use Rattle.assignment.specs.Preemptive.{meets-exactly, lawful, feasible-order}
+use Rattle.assignment.specs.Ready.{level-stops}
 use Rattle.assignment.specs.Search.{Ended}
 use Rattle.assignment.specs.Filling.{searched-fewer}
 
@@ -183,9 +184,8 @@ module _ (l : Lists) (sound : Sound l) where
       let at = taskAt (l .tasks) i in
       let above = without rest i in
       let d = demand (l .tasks) i above in
-      let within : at .deadline ≤ at .period = sound .tasks .each i inside .deadline .1 in
       go (timing (l .tasks) i above) (timing-says d (at .jitter) (at .deadline) (at .period))
-      (λ s. fails i inside t (subst (λ (a : Response). T (isWithin a)) (sym (timing-stops d (at .jitter) (at .deadline) (at .period) within)) s))
+      (λ s. fails i inside t (subst (λ (a : Response). T (isWithin a)) (sym (level-stops (l .tasks) (sound .tasks) i inside above)) s))
     where
       go : (a : Timing) → SaysTiming (l .tasks) i (without rest i) a → (T (isWithin (upToDeadline a)) → ⊥)
           → LateResponse (l .tasks) i (without rest i) (reported a)

@@ -8,13 +8,15 @@ use lib.ListN.{length, set}
 use borrow.Author.Tests.{eqb-true}
 use Rattle.sets.specs.Choice.{pick, option, and-true}
 use Rattle.sets.specs.Bounded.{without, all, all-next, greatest, greatest-at, greatest-under}
-use Rattle.sets.specs.Marks.{marked, marked-store, marked-without}
+use Rattle.sets.specs.Marks.{marked, marked-store}
 use Rattle.taskset.specs.declared.Rule.{Rule}
 use Rattle.taskset.specs.declared.Task.{Task}
-use Rattle.taskset.specs.Model.{taskAt, ruleAt}
+use Rattle.taskset.specs.Model.{taskAt, ruleAt, SoundTasks}
 use Rattle.response.specs.declared.Response.{Response}
 use Rattle.response.specs.declared.Response.the-variants.{Within, Late}
-use Rattle.response.specs.Equation.{responseTime}
+use Rattle.response.specs.Equation.{demand, responseTime}
+use Rattle.response.specs.Timing.{timing, upToDeadline}
+use Rattle.response.specs.TimingLaws.{timing-stops}
 use Rattle.assignment.specs.declared.Choice.the-variants.{Takes, Nobody}
 use Rattle.assignment.specs.Audsley.{Test, isWithin, blocks, ready, responseAt}
 use Rattle.assignment.specs.Search.{index, time, candidate, chosen}
@@ -80,10 +82,19 @@ ready-end m rules active left e = rw e
 
 -- ---- a candidate's response
 
-pub level-response-is : (tasks : List Task) (i : ℕ) (left : List Bool) → i < length left → (own : Task) → own ≡ taskAt tasks i
-    → (a : Response) → a ≡ responseTime tasks i (marked (set left i false)) (own .deadline)
-    → a ≡ responseAt tasks i (without (marked left) i)
-level-response-is tasks i left l own at a e = e ∙ rw (at, marked-without left i l)
+-- it is the one up to the period, where that meets the deadline
+pub level-stops : (tasks : List Task) → SoundTasks tasks → (i : ℕ) → i < length tasks → (above : ℕ → Bool)
+    → responseAt tasks i above ≡ upToDeadline (timing tasks i above)
+level-stops tasks sound i h above =
+    let own = taskAt tasks i in
+    timing-stops (demand tasks i above) (own .jitter) (own .deadline) (own .period) (sound .each i h .deadline .1)
+
+pub level-response-is : (tasks : List Task) → SoundTasks tasks → (i : ℕ) → i < length tasks → (left above : ℕ → Bool) → above ≡ without left i
+    → (own : Task) → own ≡ taskAt tasks i → (a : Response) → a ≡ responseTime tasks i above (own .deadline)
+    → (a ≡ responseAt tasks i (without left i)) × (a ≡ upToDeadline (timing tasks i (without left i)))
+level-response-is tasks sound i h left above others own at a e =
+    let is : a ≡ responseAt tasks i (without left i) = e ∙ rw (at, others) in
+    (is, is ∙ level-stops tasks sound i h (without left i))
 
 module _ (test : Test) (ready left : ℕ → Bool) (i : ℕ) where
   -- where it is ready, and where it isn't

@@ -10,6 +10,7 @@ ghost use Rattle.sets.specs.Marks.{first, marked};
 ghost use Rattle.taskset.specs.Refusals.{maxTasks};
 ghost use Rattle.taskset.specs.Model.{SoundTasks, Sound};
 ghost use Rattle.taskset.specs.Words.{tasksIn, rulesIn, listsIn};
+ghost use Rattle.response.specs.Timing.{timing, upToDeadline};
 ghost use Rattle.assignment.specs.Orders.{noRule, SomeOrder};
 ghost use Rattle.assignment.specs.LateTasks.{lateResponse};
 ghost use Rattle.assignment.specs.Audsley.{passes, ready, assign, responseAt, problem, bare};
@@ -82,16 +83,27 @@ fn ready(rules: &[u64], active: [bool; MAX_RULES], left: [bool; MAX_TASKS]) -> [
     ready
 }
 
-// The response of a task with the others that are left above it.
+// The tasks left other than one.
+fn others(left: [bool; MAX_TASKS], task: TaskIndex) -> [bool; MAX_TASKS]
+    requires { ⌜ task .0 < maxTasks ⌝ }
+    ensures { λ r. ⌜ marked r ≡ without (marked left) (task .0) ⌝ }
+{
+    let i = task.0;
+    let mut above = left;
+    above[i] = false;
+    above
+}
+
+// The response of a task with the others that are left above it. The search stops at the deadline: whether it is met is known
+// there.
 fn level_response(rows: &[u64], left: [bool; MAX_TASKS], task: TaskIndex) -> Response
     requires { ⌜ SoundTasks (tasksIn (now rows)) ⌝ }
     requires { ⌜ task .0 < length (tasksIn (now rows)) ⌝ }
     ensures { λ r. ⌜ r ≡ responseAt (tasksIn (now (rows .entry))) (task .0) (without (marked left) (task .0)) ⌝ }
+    ensures stops { λ r. ⌜ r ≡ upToDeadline (timing (tasksIn (now (rows .entry))) (task .0) (without (marked left) (task .0))) ⌝ }
 {
-    let i = task.0;
-    let own = task_in(rows, i);
-    let mut above = left;
-    above[i] = false;
+    let own = task_in(rows, task.0);
+    let above = others(left, task);
     response_time(rows, task, above, own.deadline)
 }
 
@@ -101,10 +113,8 @@ pub fn late_response(rows: &[u64], left: [bool; MAX_TASKS], task: TaskIndex) -> 
     requires { ⌜ task .0 < length (tasksIn (now rows)) ⌝ }
     ensures { λ r. ⌜ r ≡ lateResponse (tasksIn (now (rows .entry))) (marked left) (task .0) ⌝ }
 {
-    let i = task.0;
-    let mut above = left;
-    above[i] = false;
-    reported(timing_of(rows, task, above))
+    let rest = others(left, task);
+    reported(timing_of(rows, task, rest))
 }
 
 // Of the ready tasks that meet their deadline, the one with the greatest index takes the level.

@@ -80,7 +80,9 @@ fn level_lines(
 {
     let mut k = 0;
     while k < n {
-        let row = [k as u64, order[k].0 as u64, responses[k]];
+        let task = order[k].0 as u64;
+        let response = responses[k];
+        let row = [k as u64, task, response];
         put_row(numbers, WIDTH * k, &row);
         k += 1;
     }

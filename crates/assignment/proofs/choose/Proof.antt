@@ -73,7 +73,7 @@ returns c =
     let at = asked .before .before .before .loop in
     let s = start asked in
     chosen-takes _ (candidates s) _ _ (omega arith) (at .inv .1) _
-    (of-ready s _ (asked .before .if1 .taken) (asked .level-response .ensures) ∙ told .response .given .1)
+    (of-ready s _ (asked .before .if1 .taken) (asked .level-response .ensures .0) ∙ told .response .given .1)
 
 enum-told : tie.Need-enum-told Inv-loop μ-loop
 enum-told c = search needs
@@ -86,7 +86,7 @@ loop-again c =
     let asked = c .before .before in
     let at = asked .before .before .before .loop in
     let s = start asked in
-    let late = of-ready s _ (asked .before .if1 .taken) (asked .level-response .ensures) ∙ c .enum-told .given .1 in
+    let late = of-ready s _ (asked .before .if1 .taken) (asked .level-response .ensures .0) ∙ c .enum-told .given .1 in
     (omega arith, chosen-next _ (candidates s) _ _ (omega arith) (at .inv .1) late)
 
 loop-less-2 : tie.Need-loop-less-2 Inv-loop μ-loop

@@ -12,13 +12,13 @@ enum-told : tie.Need-enum-told
 enum-told c = search needs
 
 returns : tie.Need-returns
-returns c = sym (ap isWithin (sym (c .before .before .level-response .ensures) ∙ c .enum-told .given .1))
+returns c = sym (ap isWithin (sym (c .before .before .level-response .ensures .0) ∙ c .enum-told .given .1))
 
 enum-told-2 : tie.Need-enum-told-2
 enum-told-2 c = search needs
 
 returns-2 : tie.Need-returns-2
-returns-2 c = sym (ap isWithin (sym (c .before .before .level-response .ensures) ∙ c .enum-told2 .given .1))
+returns-2 c = sym (ap isWithin (sym (c .before .before .level-response .ensures .0) ∙ c .enum-told2 .given .1))
 
 pub passes-spec : {M : Type 1} → statement M
 passes-spec =

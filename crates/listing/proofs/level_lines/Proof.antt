@@ -31,17 +31,17 @@ room c = let at = c .before .loop in omega (arith, at .inv .1, start c .pre .0, 
 loop-holds : tie.Need-loop-holds Inv-loop μ-loop
 loop-holds c = (omega arith, refl, has-none _ _ width _)
 
-mul-t11 : tie.Need-mul-t11 Inv-loop μ-loop
-mul-t11 c = omega (arith, start c .pre .0)
+mul-task : tie.Need-mul-task Inv-loop μ-loop
+mul-task c = omega (arith, start c .pre .0)
 
-element-copy-out-t14 : tie.Need-element-copy-out-t14 Inv-loop μ-loop
-element-copy-out-t14 c = omega (arith, start c .pre .0)
+element-copy-out-task : tie.Need-element-copy-out-task Inv-loop μ-loop
+element-copy-out-task c = omega (arith, start c .pre .0)
 
-mul-t16 : tie.Need-mul-t16 Inv-loop μ-loop
-mul-t16 c = omega (arith, start c .pre .0)
+mul-response : tie.Need-mul-response Inv-loop μ-loop
+mul-response c = omega (arith, start c .pre .0)
 
-array-read-t19 : tie.Need-array-read-t19 Inv-loop μ-loop
-array-read-t19 c = omega (arith, start c .pre .0)
+array-read-response : tie.Need-array-read-response Inv-loop μ-loop
+array-read-response c = omega (arith, start c .pre .0)
 
 mul-put-row : tie.Need-mul-put-row Inv-loop μ-loop
 mul-put-row c = omega (arith, start (c .before) .pre .0)
@@ -85,10 +85,10 @@ level-lines-spec =
     Inv-loop
     μ-loop
     loop-holds
-    mul-t11
-    element-copy-out-t14
-    mul-t16
-    array-read-t19
+    mul-task
+    element-copy-out-task
+    mul-response
+    array-read-response
     mul-put-row
     (λ c. search needs)
     put-row-requires

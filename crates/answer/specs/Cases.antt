@@ -6,7 +6,6 @@ use mathlib.Core.List.{List, [], _∷_, _++_, map, flatMap}
 use Prim.Native.Nat.{ℕ}
 use Rattle.sets.specs.Bounded.{all, greatest}
 use Rattle.sets.specs.Sum.{sum}
-use Rattle.sets.specs.Entries.{entries}
 use Rattle.lines.specs.Decimal.{areDigits, valueAfter, isNumber, digitsIn, decimal}
 use Rattle.lines.specs.Line.{line, linesOf}
 use Rattle.lines.specs.Parts.{parts}

@@ -1,11 +1,11 @@
 -- Who is left without a level where no rule is active, for any test that fewer tasks above can't break: the same tasks whichever
 -- of those that may takes each level, for they are the greatest set of tasks of which each fails with the others above it. Then
 -- for document 01's test. Assumes nothing.
-use mathlib.Core.Path.{_≡_, refl, sym, ap, subst, _∙_, fun-ext}
+use mathlib.Core.Path.{_≡_, refl, sym, subst, _∙_, fun-ext}
 use mathlib.Core.Bool.{Bool, false}
 use mathlib.Core.List.{List, [], _∷_}
 use mathlib.Core.Logic.{_⊎_, inl, inr, ⊎-elim, _↔_}
-use Prim.Native.Nat.{ℕ, zero, suc, _≤_, _<_, suc-le-suc}
+use Prim.Native.Nat.{ℕ, suc, _<_, suc-le-suc}
 use native.Mathlib.Nat.{not-suc-le-zero, eq-zero-or-pos}
 use native.Mathlib.Omega.{arith}
 use lib.Dec.{T, eqb, eqb→eq, eqb-refl}
@@ -13,9 +13,6 @@ use lib.ListN.{length, getD, drop, replicate}
 use Rattle.sets.specs.Choice.{same-test, refuted→false}
 use Rattle.sets.specs.Bounded.{Subset, without, without-still, without-other, count, count-some, count-pos}
 use Rattle.sets.specs.Marks.{marked, marked-none}
-use Rattle.taskset.specs.declared.Task.{Task}
-use Rattle.taskset.specs.declared.Rule.{Rule}
-use Rattle.taskset.specs.Refusals.{InRanges}
 use Rattle.taskset.specs.Model.{Lists, taskAt, Sound}
 use Rattle.response.specs.declared.Response.{Response}
 use Rattle.response.specs.declared.Timing.{Timing}
@@ -26,10 +23,10 @@ use Rattle.response.specs.TimingLaws.{timing-says}
 use Rattle.assignment.specs.declared.Search.{Search}
 use Rattle.assignment.specs.Orders.{noRule, MeetsDeadline, SomeOrder}
 use Rattle.assignment.specs.Canonical.{MayTake}
-use Rattle.assignment.specs.LateTasks.{EndedSearch, CanonicalSearch, AllMiss, LateResponse, LateTasks, unassignable, lateResponse}
-use Rattle.assignment.specs.Audsley.{Problem, Passes, isWithin, unassigned, assign, feasible, Filled, empty, level, Stuck, responseAt, problem}
+use Rattle.assignment.specs.LateTasks.{CanonicalSearch, AllMiss, LateResponse, LateTasks, unassignable, lateResponse}
+use Rattle.assignment.specs.Audsley.{Problem, Passes, isWithin, unassigned, assign, feasible, Filled, empty, level, Stuck, problem}
 use Rattle.assignment.specs.Levels.{unassigned-of, unassigned-is, unassigned-cons, may-other}
-use Rattle.assignment.specs.Decision.{Lawful, test-may, may-test, filled-at, filled-count, assign-ends, feasible-exactly}
+use Rattle.assignment.specs.Decision.{Lawful, test-may, may-test, filled-at, filled-count, assign-ends, assign-filled}
 use Rattle.assignment.specs.CanonicalLaws.{assign-greatest}
 use Rattle.assignment.specs.Preemptive.{meets-exactly, lawful, feasible-order}
 use Rattle.assignment.specs.Ready.{level-stops}
@@ -63,6 +60,27 @@ module _ (p : Problem) (active : ℕ → Bool) where
   full-stuck : (low : List ℕ) → Filled p active low → length low ≡ n → Stuck p active (unassigned n low)
   full-stuck low f whole i h t = none-left low f whole i (test-may p active (unassigned n low) i t .isLeft)
 
+  -- so where the assignment ends nobody may take the next level
+  assign-stuck : Stuck p active (unassigned n (assign p active))
+  assign-stuck = ⊎-elim (full-stuck (assign p active) (assign-filled p active)) (λ stuck. stuck) (assign-ends p active .1)
+
+  -- a search with rules, where every level is filled or no rule is active, is one without
+  ended-none : (s : Search) → Ended p active s → (s .free ≡ 0) ⊎ ((k : ℕ) → k < length (p .rules) → T (active k) → ⊥) → Ended p noRule s
+  ended-none s ended so =
+      record {
+        searched = searched-fewer p noRule active (λ k h on. absurd on) s (ended .searched);
+        ends =
+            ⊎-elim (λ z. inl z)
+            (λ none.
+            ⊎-elim (λ z. inl z)
+            (λ stuck. inr (λ i h t.
+            stuck i h
+            (may-test p active (marked (s .left)) i
+            (may-other (λ i above m. m) (λ k l on. absurd (none k l on)) (test-may p noRule (marked (s .left)) i t)))))
+            (ended .ends))
+            so;
+      }
+
 -- ---- without rules
 
 module _ (p : Problem) (lawful : Lawful p) where
@@ -92,53 +110,24 @@ module _ (p : Problem) (lawful : Lawful p) where
       stuck i h (may-test p noRule rest i (record { isLeft = t; below = λ k l on. absurd on; meets = m }))
 
   -- so two searches leave the same
-  pub left-same : (one other : List ℕ) → Filled p noRule one → Filled p noRule other → Stuck p noRule (left one) → Stuck p noRule (left other)
+  left-same : (one other : List ℕ) → Filled p noRule one → Filled p noRule other → Stuck p noRule (left one) → Stuck p noRule (left other)
       → left one ≡ left other
   left-same one other f g stuck ended =
-      fun-ext (λ j. same-test (left one j) (left other j) (sub one other f g stuck ended j) (sub other one g f ended stuck j))
+      fun-ext (λ j. same-test (left one j) (left other j) (sub one other g stuck j) (sub other one f ended j))
     where
-      sub : (a b : List ℕ) → Filled p noRule a → Filled p noRule b → Stuck p noRule (left a) → Stuck p noRule (left b)
-          → (j : ℕ) → T (left a j) → T (left b j)
-      sub a b f g s t j h = fail-stay (left a) (stuck-fail (left a) s) b g j (unassigned-is (p .tasks) a j h .0) h
-
-  -- the assignment's own end
-  abbrev own : List ℕ
-  own = assign p noRule
-
-  own-filled : Filled p noRule own
-  own-filled = assign-ends p noRule .0
-
-  own-stuck : Stuck p noRule (left own)
-  own-stuck = ⊎-elim (full-stuck p noRule own own-filled) (λ stuck. stuck) (assign-ends p noRule .1)
+      sub : (a b : List ℕ) → Filled p noRule b → Stuck p noRule (left a) → (j : ℕ) → T (left a j) → T (left b j)
+      sub a b filled s j h = fail-stay (left a) (stuck-fail (left a) s) b filled j (unassigned-is (p .tasks) a j h .0) h
 
   -- a search in arrays leaves the same
-  pub ended-left : (s : Search) → Ended p noRule s → marked (s .left) ≡ left own
+  ended-left : (s : Search) → Ended p noRule s → marked (s .left) ≡ left (assign p noRule)
   ended-left s ended =
       let held = ended .searched in
       let low = held .low in
       let few = filled-count p noRule low (held .filled) in
       held .holds .left
-      ∙ left-same low own (held .filled) own-filled
+      ∙ left-same low (assign p noRule) (held .filled) (assign-filled p noRule)
       (⊎-elim (λ z. full-stuck p noRule low (held .filled) (omega (arith, z, held .holds .free, few)))
-      (subst (Stuck p noRule) (held .holds .left)) (ended .ends)) own-stuck
-
-  -- also one with rules, where every level is filled or no rule is active
-  pub ended-none : (active : ℕ → Bool) (s : Search) → Ended p active s → (s .free ≡ 0) ⊎ ((k : ℕ) → k < length (p .rules) → T (active k) → ⊥)
-      → Ended p noRule s
-  ended-none active s ended so =
-      record {
-        searched = searched-fewer p noRule active (λ k h on. absurd on) s (ended .searched);
-        ends =
-            ⊎-elim (λ z. inl z)
-            (λ none.
-            ⊎-elim (λ z. inl z)
-            (λ stuck. inr (λ i h t.
-            stuck i h
-            (may-test p active (marked (s .left)) i
-            (may-other (λ i above m. m) (λ k l on. absurd (none k l on)) (test-may p noRule (marked (s .left)) i t)))))
-            (ended .ends))
-            so;
-      }
+      (subst (Stuck p noRule) (held .holds .left)) (ended .ends)) (assign-stuck p noRule)
 
 -- ---- by document 01's test
 
@@ -167,15 +156,15 @@ module _ (l : Lists) (sound : Sound l) where
       record {
         ends =
             record {
-              each = λ k h. words-may (filled-may p noRule low (own-filled p (lawful l sound)) k h);
+              each = λ k h. words-may (filled-may p noRule low (assign-filled p noRule) k h);
               nobody = λ i may.
-                  own-stuck p (lawful l sound) i (unassigned-is m low i (may .isLeft) .0) (may-test p noRule rest i (test-may-words may));
+                  assign-stuck p noRule i (unassigned-is m low i (may .isLeft) .0) (may-test p noRule rest i (test-may-words may));
             };
         greatest = λ k h i may. assign-greatest p noRule k h i (test-may-words may);
       }
 
   fails : AllMiss m (Passes p) rest
-  fails = stuck-fail p (lawful l sound) rest (own-stuck p (lawful l sound))
+  fails = stuck-fail p (lawful l sound) rest (assign-stuck p noRule)
 
   -- the response that is reported of a task left
   response-is : (i : ℕ) → T (rest i) → LateResponse (l .tasks) i (without rest i) (lateResponse (l .tasks) rest i)
@@ -196,9 +185,9 @@ module _ (l : Lists) (sound : Sound l) where
   some-left : ((i : ℕ) × T (rest i)) ↔ (SomeOrder l noRule → ⊥)
   unfolding feasible
   some-left =
-      let few = filled-count p noRule low (own-filled p (lawful l sound)) in
+      let few = filled-count p noRule low (assign-filled p noRule) in
       let f = feasible-order l sound noRule in (
-        λ s o. none-left p noRule low (own-filled p (lawful l sound)) (eqb→eq (length low) m (f .1 o)) (s .0) (s .1),
+        λ s o. none-left p noRule low (assign-filled p noRule) (eqb→eq (length low) m (f .1 o)) (s .0) (s .1),
         λ none.
             ⊎-elim
             (λ z. absurd (none (f .0 (subst (λ (k : ℕ). T (eqb k m)) (omega arith) (eqb-refl m)))))
@@ -213,12 +202,12 @@ module _ (l : Lists) (sound : Sound l) where
         search = (low, search-is, refl);
         every = λ other e.
             left-same p (lawful l sound) other low (each-filled p noRule other (λ k h. test-may-words (e .each k h)))
-            (own-filled p (lawful l sound)) (λ i h t. e .nobody i (words-may (test-may p noRule (unassigned m other) i t)))
-            (own-stuck p (lawful l sound));
+            (assign-filled p noRule) (λ i h t. e .nobody i (words-may (test-may p noRule (unassigned m other) i t)))
+            (assign-stuck p noRule);
         misses = λ i h t meets. fails i h t (meets-exactly (l .tasks) i (without rest i) .1 meets);
         greatest = λ set miss.
             fail-stay p (lawful l sound) set (λ i h t passes. miss i h t (meets-exactly (l .tasks) i (without set i) .0 passes)) low
-            (own-filled p (lawful l sound));
+            (assign-filled p noRule);
         some = some-left;
         responses = response-is;
       }
@@ -227,7 +216,7 @@ module _ (l : Lists) (sound : Sound l) where
   pub left-unassignable : (active : ℕ → Bool) (s : Search) → Ended p active s → (s .free ≡ 0) ⊎ ((k : ℕ) → k < length (l .rules) → T (active k) → ⊥)
       → marked (s .left) ≡ unassignable l
   unfolding unassignable
-  left-unassignable active s ended so = ended-left p (lawful l sound) s (ended-none p (lawful l sound) active s ended so)
+  left-unassignable active s ended so = ended-left p (lawful l sound) s (ended-none p active s ended so)
 
 -- they are some of its tasks
 pub left-inside : (l : Lists) (i : ℕ) → T (unassignable l i) → i < length (l .tasks)

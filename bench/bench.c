@@ -169,20 +169,37 @@ static void load_near_one(struct text *t, unsigned n, unsigned m)
 }
 
 /*
- * Hostile. Six tasks, found by a search, leave 1 part in 3,000 of the processor in such a pattern that a response takes
- * a thousand rounds, with leaps or without. Of the small tasks below them 33 stand in circles of rules. The other 25
- * are blocked so long that each is late, which takes as many rounds to see, until its own level is reached; the last
- * one typed may only stand highest, so each level tries them all.
+ * Six tasks, found by a search, that leave 1 part in 3,000 of the processor in such a pattern that a response takes a
+ * thousand rounds, with leaps or without.
  */
-static void hostile(struct text *t, unsigned n, unsigned m)
+static void nearly_full(struct text *t)
 {
     static const unsigned rows[6][2] = { { 83, 334 }, { 251, 1169 }, { 1185, 2339 }, { 68, 2343 }, { 2, 4678 }, { 4, 10659 } };
     for (unsigned i = 0; i < 6; i++)
         task(t, rows[i][0], rows[i][1], rows[i][1], 0, 0);
+}
+
+/*
+ * Hostile. Of the small tasks below those six 33 stand in circles of rules. The other 25 are blocked so long that each
+ * is late, which takes a thousand rounds to see, until its own level is reached; the last one typed may only stand
+ * highest, so each level tries them all.
+ */
+static void hostile(struct text *t, unsigned n, unsigned m)
+{
+    nearly_full(t);
     small_tasks(t, 33);
     for (unsigned i = 39; i < n; i++)
         task(t, 1, SECOND, SECOND, 0, i - 4);
     circle(t, 6, 33, m);
+}
+
+/* The same six, and tasks that are late at once, whose responses lie far beyond their deadlines. */
+static void hostile_late(struct text *t, unsigned n, unsigned m)
+{
+    (void)m;
+    nearly_full(t);
+    for (unsigned i = 6; i < n; i++)
+        task(t, 1, SECOND, 1, 0, i - 4);
 }
 
 static const struct family families[] = {
@@ -199,6 +216,7 @@ static const struct family families[] = {
     { "falling deadlines, one rule of 128 clashes", falling_clash, FULL, RULES },
     { "hostile, no rules", hostile, FULL, 0 },
     { "hostile, 128 rules in circles", hostile, FULL, RULES },
+    { "hostile, every task late", hostile_late, FULL, 0 },
 };
 
 static const struct family growth[] = {

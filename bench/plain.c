@@ -1,7 +1,8 @@
 /*
  * plain.c: the call of orders.h written the plain way, to compare with. The
  * response is found by repeating w := demand(w), the order by one search from
- * the lowest level upward, the core by one such search for each rule.
+ * the lowest level upward, the core by one such search for each rule, and the
+ * late tasks by one more.
  */
 #include <stdbool.h>
 #include <string.h>
@@ -133,12 +134,12 @@ static uint64_t demand(const struct task_set *s, const bool *left, size_t i, uin
     return sum;
 }
 
-/* The response of task i with the other tasks that are left above it; 0 when it is late. */
-static uint64_t response(const struct task_set *s, const bool *left, size_t i)
+/* The response of task i with the other tasks that are left above it; 0 when none lies within the limit. */
+static uint64_t response(const struct task_set *s, const bool *left, size_t i, uint64_t limit)
 {
     const struct task *own = &s->tasks[i];
     uint64_t w = own->blocking + own->execution;
-    while (own->jitter + w <= own->deadline) {
+    while (own->jitter + w <= limit) {
         uint64_t needed = demand(s, left, i, w);
         if (needed == w)
             return own->jitter + w;
@@ -163,7 +164,7 @@ static bool fill_level(const struct task_set *s, const bool *active, bool *left,
     mark_held(s, active, left, held);
     for (size_t i = s->ntasks; i-- > 0;) {
         order->task[level] = i;
-        order->response[level] = left[i] && !held[i] ? response(s, left, i) : 0;
+        order->response[level] = left[i] && !held[i] ? response(s, left, i, s->tasks[i].deadline) : 0;
         if (order->response[level] > 0) {
             left[i] = false;
             return true;
@@ -172,11 +173,10 @@ static bool fill_level(const struct task_set *s, const bool *active, bool *left,
     return false;
 }
 
-/* Fills the levels from the lowest upward; false when no order is valid. */
-static bool find_order(const struct task_set *s, const bool *active, struct order *order)
+/* Fills the levels from the lowest upward; false when no order is valid, with the tasks that have no level left. */
+static bool find_order(const struct task_set *s, const bool *active, bool *left, struct order *order)
 {
-    bool left[MAX_TASKS];
-    memset(left, 1, sizeof left);
+    memset(left, 1, MAX_TASKS);
     for (size_t level = s->ntasks; level-- > 0;)
         if (!fill_level(s, active, left, level, order))
             return false;
@@ -187,9 +187,10 @@ static bool find_order(const struct task_set *s, const bool *active, struct orde
 static void find_core(const struct task_set *s, bool *active)
 {
     struct order order;
+    bool left[MAX_TASKS];
     for (size_t k = 0; k < s->nrules; k++) {
         active[k] = false;
-        active[k] = find_order(s, active, &order);
+        active[k] = find_order(s, active, left, &order);
     }
 }
 
@@ -215,11 +216,16 @@ static void put_row(struct listing *l, uint64_t a, uint64_t b, uint64_t c)
     put_number(l, c, '\n');
 }
 
-/* Puts the word of a head line, and the count. */
-static void put_head(struct listing *l, const char *word, size_t count)
+static void put_word(struct listing *l, const char *word)
 {
     while (*word)
         l->bytes[l->len++] = (uint8_t)*word++;
+}
+
+/* Puts the word of a head line, and the count. */
+static void put_head(struct listing *l, const char *word, size_t count)
+{
+    put_word(l, word);
     put_number(l, count, '\n');
 }
 
@@ -228,6 +234,20 @@ static void list_order(const struct task_set *s, const struct order *order, stru
     put_head(l, "order\t", s->ntasks);
     for (size_t k = 0; k < s->ntasks; k++)
         put_row(l, k, order->task[k], order->response[k]);
+}
+
+/* The tasks that have no level when no rule is active, with their responses up to their periods. */
+static void list_late(const struct task_set *s, const bool *no_rule, struct listing *l)
+{
+    struct order order;
+    bool left[MAX_TASKS];
+    find_order(s, no_rule, left, &order);
+    for (size_t i = 0; i < s->ntasks; i++)
+        if (left[i]) {
+            put_word(l, "late\t");
+            put_number(l, i, '\t');
+            put_number(l, response(s, left, i, s->tasks[i].period), '\n');
+        }
 }
 
 static void list_core(const struct task_set *s, const bool *core, struct listing *l)
@@ -239,15 +259,17 @@ static void list_core(const struct task_set *s, const bool *core, struct listing
     for (size_t k = 0; k < s->nrules; k++)
         if (core[k])
             put_row(l, k, s->rules[k].higher, s->rules[k].lower);
+    if (count == 0)
+        list_late(s, core, l);
 }
 
 /* Solves a task set and lists the verdict. */
 static void list_verdict(const struct task_set *s, struct listing *l)
 {
     struct order order;
-    bool active[MAX_RULES];
+    bool active[MAX_RULES], left[MAX_TASKS];
     memset(active, 1, sizeof active);
-    if (find_order(s, active, &order)) {
+    if (find_order(s, active, left, &order)) {
         list_order(s, &order, l);
         return;
     }

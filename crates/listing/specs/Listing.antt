@@ -48,9 +48,12 @@ linesFor l v (Refused k) = []
 linesFor l v Order = linesBelow (λ k. true) (levelLine (v .order) (v .responses)) (length (l .tasks))
 linesFor l v Core = linesBelow (marked (v .core)) (ruleLine (l .rules)) (length (l .rules))
 
--- under a core of no rules, every task left without a level; else none
+-- every task left without a level; but only under a core of no rules
+abbrev pub lateRows : List Task → (ℕ → Bool) → List (List ℕ)
+lateRows tasks left = linesBelow left (lateLine tasks left) (length tasks)
+
 abbrev pub lateUnder : ℕ → List Task → (ℕ → Bool) → List (List ℕ)
-lateUnder rules tasks left = pick (eqb rules 0) (linesBelow left (lateLine tasks left) (length tasks)) []
+lateUnder size tasks left = pick (eqb size 0) (lateRows tasks left) []
 
 abbrev pub lateFor : Lists → Verdict → Answer → List (List ℕ)
 lateFor l v (Refused k) = []
@@ -71,7 +74,7 @@ late = 108 ∷ 97 ∷ 116 ∷ 101 ∷ tab ∷ []
 
 -- the head line, with the count of the lines after it, those, and the late lines
 unfoldable pub listingWith : List ℕ → List (List ℕ) → List (List ℕ) → List ℕ
-listingWith head lines tasks = line head (length lines ∷ []) ++ linesOf [] lines ++ linesOf late tasks
+listingWith head lines lates = line head (length lines ∷ []) ++ linesOf [] lines ++ linesOf late lates
 
 abbrev pub listing : Lists → Verdict → List ℕ
 listing l v = let a = v .answer in listingWith (word a) (linesFor l v a) (lateFor l v a)

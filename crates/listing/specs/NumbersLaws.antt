@@ -173,14 +173,14 @@ lines-length-all nums (suc n) =
 
 -- ---- the late lines under a core of so many rules
 
-module _ (rules : ℕ) (tasks : List Task) (left : ℕ → Bool) where
+module _ (size : ℕ) (tasks : List Task) (left : ℕ → Bool) where
   abbrev pub HasLate : ℕ → List ℕ → Type 0
-  HasLate n numbers = (n ≡ length (lateUnder rules tasks left)) × HasLines lateWidth (lateUnder rules tasks left) numbers
+  HasLate n numbers = (n ≡ length (lateUnder size tasks left)) × HasLines lateWidth (lateUnder size tasks left) numbers
 
-  pub late-none : (rules ≡ 0 → ⊥) → (numbers : List ℕ) → HasLate 0 numbers
+  pub late-none : (size ≡ 0 → ⊥) → (numbers : List ℕ) → HasLate 0 numbers
   unfolding flatMap
-  late-none some numbers = rw (ne-eqb rules 0 some) (refl, refl)
+  late-none some numbers = rw (ne-eqb size 0 some) (refl, refl)
 
-  pub late-all : rules ≡ 0 → {long k n : ℕ} {numbers : List ℕ} → k ≡ length tasks
+  pub late-all : size ≡ 0 → {long k n : ℕ} {numbers : List ℕ} → k ≡ length tasks
       → Written left (lateLine tasks left) lateWidth long k n numbers → HasLate n numbers
-  late-all none whole w = rw (eq-eqb rules 0 none, ← whole) (w .count, w .has)
+  late-all none whole w = rw (eq-eqb size 0 none, ← whole) (w .count, w .has)

@@ -36,7 +36,7 @@ use Rattle.verdict.specs.Verdict.{deciding, solving}
 use Rattle.verdict.specs.Correct.{orderGiven, Correct}
 use Rattle.verdict.specs.Solving.{solving-cases}
 use Rattle.verdict.specs.Explained.{deciding-correct}
-use Rattle.listing.specs.Listing.{levelLine, ruleLine, lateLine, linesBelow, linesFor, lateFor, word, late, listingWith, listing}
+use Rattle.listing.specs.Listing.{levelLine, ruleLine, lateLine, linesBelow, lateRows, linesFor, lateFor, word, late, listingWith, listing}
 use Rattle.listing.specs.Listing.{Outcome, refused, shown, outcome, maxListing}
 use Rattle.listing.specs.NumbersLaws.{lines-few}
 use Rattle.listing.specs.GivesLaws.{RefusedOrListed, refusal, verdict, decided-either}
@@ -100,14 +100,14 @@ unfolding linesOf flatMap
 no-lines head = refl
 
 -- and the head line, with fewer than 10 ^ d lines
-listing-long : (d : ℕ) (head : List ℕ) (lines tasks : List (List ℕ)) → 1 ≤ d → length lines < 10 ^ d
-    → length (listingWith head lines tasks) ≤ length head + d + 1 + length (linesOf [] lines) + length (linesOf late tasks)
+listing-long : (d : ℕ) (head : List ℕ) (lines lates : List (List ℕ)) → 1 ≤ d → length lines < 10 ^ d
+    → length (listingWith head lines lates) ≤ length head + d + 1 + length (linesOf [] lines) + length (linesOf late lates)
 unfolding listingWith flatMap
-listing-long d head lines tasks some few =
+listing-long d head lines lates some few =
     let n = length lines in
     omega (
       arith,
-      length-append (line head (n ∷ []) ++ linesOf [] lines) (linesOf late tasks),
+      length-append (line head (n ∷ []) ++ linesOf [] lines) (linesOf late lates),
       length-append (line head (n ∷ [])) (linesOf [] lines),
       line-long head (n ∷ []) (omega arith),
       number-short d n [] some few,
@@ -175,15 +175,15 @@ module _ (l : Lists) (sound : Sound l) (v : Verdict) (ok : Correct l v) where
   core-short = go (eqb (length (linesFor l v Core)) 0) refl
     where
       go : (b : Bool) → eqb (length (linesFor l v Core)) 0 ≡ b
-          → let tasks = pick b (linesBelow (unassignable l) (lateLine (l .tasks) (unassignable l)) n) [] in
-          length (listingWith (word Core) (linesFor l v Core) tasks) ≤ maxListing
+          → let lates = pick b (lateRows (l .tasks) (unassignable l)) [] in
+          length (listingWith (word Core) (linesFor l v Core) lates) ≤ maxListing
       go true f =
           let few = sound .tasks .few in
-          let tasks = linesBelow (unassignable l) (lateLine (l .tasks) (unassignable l)) n in
+          let lates = lateRows (l .tasks) (unassignable l) in
           let none = eqb-true (length (linesFor l v Core)) 0 f in
           omega (
             arith,
-            listing-long 3 (word Core) (linesFor l v Core) tasks (omega arith) (omega arith),
+            listing-long 3 (word Core) (linesFor l v Core) lates (omega arith) (omega arith),
             lines-short 10 [] (marked (v .core)) (ruleLine (l .rules)) (length (l .rules)) rule-short,
             lines-short 16 late (unassignable l) (lateLine (l .tasks) (unassignable l)) n late-short,
             lines-few (unassignable l) (lateLine (l .tasks) (unassignable l)) n,

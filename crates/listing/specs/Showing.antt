@@ -24,17 +24,17 @@ use Rattle.verdict.specs.declared.Verdict.{Verdict}
 use Rattle.verdict.specs.Verdict.{deciding, solving}
 use Rattle.verdict.specs.Solving.{solving-14, solving-made}
 use Rattle.listing.specs.declared.Shown.{Shown}
-use Rattle.listing.specs.Listing.{lateLine, linesBelow, linesFor, lateFor, word, late, listingWith, listing}
+use Rattle.listing.specs.Listing.{lateLine, lateRows, linesFor, lateFor, word, late, listingWith, listing}
 use Rattle.listing.specs.Listing.{Outcome, shown, outcomeFor, outcome, fitted, shownAs, listed, bufferAfter}
 use Rattle.listing.specs.Numbers.{width, maxNumbers, lateWidth, maxLate, HasLines}
 use Rattle.listing.specs.NumbersLaws.{lines-few, lines-wide, lines-back}
 
 -- the head line of as many lines as the numbers have, and then theirs
-pub listing-parts : (head body tasks : List ℕ) → let lines = chunks width body in
-    line head (length body / width ∷ []) ++ linesOf [] lines ++ linesOf late (chunks lateWidth tasks)
-    ≡ listingWith head lines (chunks lateWidth tasks)
+pub listing-parts : (head body lates : List ℕ) → let lines = chunks width body in
+    line head (length body / width ∷ []) ++ linesOf [] lines ++ linesOf late (chunks lateWidth lates)
+    ≡ listingWith head lines (chunks lateWidth lates)
 unfolding listingWith
-listing-parts head body tasks = rw (chunks-count width body)
+listing-parts head body lates = rw (chunks-count width body)
 
 -- what showing answers and leaves in a buffer, for an outcome
 abbrev pub Shows : List ℕ → Outcome → Shown → List ℕ → Type 0
@@ -82,7 +82,7 @@ module _ (l : Lists) (v : Verdict) (sound : Sound l) where
   late-fit Order = (omega arith, tt)
   late-fit Core = go (eqb (length (linesFor l v Core)) 0)
     where
-      go : (b : Bool) → let lines = pick b (linesBelow (unassignable l) (lateLine (l .tasks) (unassignable l)) (length (l .tasks))) [] in
+      go : (b : Bool) → let lines = pick b (lateRows (l .tasks) (unassignable l)) [] in
           (length lines ≤ maxTasks) × AllWide lateWidth lines
       go true =
           let n = length (l .tasks) in
@@ -96,19 +96,19 @@ module _ (l : Lists) (v : Verdict) (sound : Sound l) where
     pub lines-inside : maxNumbers ≤ length numbers → (n ≤ maxRules) × (width * n ≤ length numbers)
     lines-inside room = let fit = lines-fit a .0 in (omega arith, omega arith)
 
-    module _ (tasks : List ℕ) (m : ℕ) (left : m ≡ length (lateFor l v a)) (holds : HasLines lateWidth (lateFor l v a) tasks) where
-      pub late-inside : maxLate ≤ length tasks → (m ≤ maxTasks) × (lateWidth * m ≤ length tasks)
+    module _ (lates : List ℕ) (m : ℕ) (left : m ≡ length (lateFor l v a)) (holds : HasLines lateWidth (lateFor l v a) lates) where
+      pub late-inside : maxLate ≤ length lates → (m ≤ maxTasks) × (lateWidth * m ≤ length lates)
       late-inside room = let fit = late-fit a .0 in (omega arith, omega arith)
 
       -- what is shown of them is the outcome
       pub shows-lines : v .answer ≡ a → outcomeFor l v a ≡ shown (listing l v) → (buffer : List ℕ) (r : Shown) (xs : List ℕ)
-          → Shows buffer (shown (listingWith (word a) (chunks width (take (width * n) numbers)) (chunks lateWidth (take (lateWidth * m) tasks)))) r xs
+          → Shows buffer (shown (listingWith (word a) (chunks width (take (width * n) numbers)) (chunks lateWidth (take (lateWidth * m) lates)))) r xs
           → Shows buffer (outcome l v) r xs
       shows-lines e f buffer r xs =
           subst (λ (o : Outcome). Shows buffer o r xs)
           (ap₂ (λ (rs ts : List (List ℕ)). shown (listingWith (word a) rs ts))
           (lines-back width (linesFor l v a) (lines-fit a .1) (omega arith) numbers n count has)
-          (lines-back lateWidth (lateFor l v a) (late-fit a .1) (omega arith) tasks m left holds)
+          (lines-back lateWidth (lateFor l v a) (late-fit a .1) (omega arith) lates m left holds)
           ∙ ap (λ (b : Answer). shown (listingWith (word b) (linesFor l v b) (lateFor l v b))) (sym e)
           ∙ sym f
           ∙ ap (outcomeFor l v) (sym e))

@@ -113,13 +113,13 @@ fn rule_lines(core: [bool; MAX_RULES], rules: &[u64], numbers: &mut [u64]) -> us
 
 // The late lines under a core of so many rules, none unless it is empty: each task left, rising, with its response; and how many
 // they are.
-fn late_lines(rules: usize, left: [bool; MAX_TASKS], rows: &[u64], numbers: &mut [u64]) -> usize
+fn late_lines(size: usize, left: [bool; MAX_TASKS], rows: &[u64], numbers: &mut [u64]) -> usize
     requires { ⌜ SoundTasks (tasksIn (now rows)) ⌝ }
     requires { ⌜ maxLate ≤ length (now numbers) ⌝ }
-    ensures { λ r. ⌜ r ≡ length (lateUnder rules (tasksIn (now (rows .entry))) (marked left)) ⌝ }
-    ensures lines { λ r. ⌜ HasLines lateWidth (lateUnder rules (tasksIn (now (rows .entry))) (marked left)) (now (numbers .exit)) ⌝ }
+    ensures { λ r. ⌜ r ≡ length (lateUnder size (tasksIn (now (rows .entry))) (marked left)) ⌝ }
+    ensures lines { λ r. ⌜ HasLines lateWidth (lateUnder size (tasksIn (now (rows .entry))) (marked left)) (now (numbers .exit)) ⌝ }
 {
-    if rules != 0 {
+    if size != 0 {
         return 0;
     }
     let n = rows.len() / TASK_WORDS;
@@ -193,11 +193,11 @@ pub fn show(decided: Decided, rows: &[u64], rules: &[u64], out: &mut [u8]) -> Sh
             let core = verdict.core;
             let left = decided.left;
             let count = rule_lines(core, rules, &mut numbers);
-            let tasks = late_lines(count, left, rows, &mut late);
+            let lates = late_lines(count, left, rows, &mut late);
             write(
                 b"core\t",
                 &numbers[..WIDTH * count],
-                &late[..LATE_WIDTH * tasks],
+                &late[..LATE_WIDTH * lates],
                 out,
             )
         }

@@ -226,6 +226,7 @@ static void run_made(void)
     run_sizes("the empty text", empty);
     run_sizes("64 tasks, 128 rules, an order", full_order());
     run_sizes("64 tasks, 128 rules, a core", full_core());
+    run_sizes("64 tasks, 128 rules, every task late", full_late());
     run_sizes("16,384 bytes", long_text(ORDERS_TEXT_MAX, "bad\t193\t7\n"));
     run_sizes("16,385 bytes", long_text(ORDERS_TEXT_MAX + 1, "bad\t0\t8\n"));
 }

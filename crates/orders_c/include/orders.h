@@ -28,6 +28,13 @@
  *     core  count          then one line for each rule: rule place, u, l
  *
  * A core of 0 rules says that there is no such order even without any rule.
+ * Then one line follows for each task that has no level when the levels are
+ * filled so without any rule, in rising place, and there is at least one:
+ *
+ *     late  place  response
+ *
+ * The response is that of the task with the other late tasks above it, which is
+ * beyond its deadline; it is 0 where none lies within its period.
  */
 #ifndef ORDERS_H
 #define ORDERS_H
@@ -42,7 +49,7 @@
 #define ORDERS_LISTING_MAX 1289
 
 /*
- * Stack that is enough for a call, in bytes. 29,160 were measured: the deepest
+ * Stack that is enough for a call, in bytes. 28,136 were measured: the deepest
  * byte that calls changed on a stack filled with one value (tests/stack.c).
  */
 #define ORDERS_STACK 65536

@@ -314,13 +314,22 @@ static struct answer answer_of(struct bytes written)
     return want;
 }
 
-/* A full set, with every buffer length. */
+/* Full sets, with every buffer length. */
 static void call_full_order(void)
 {
     struct pair made = full_order();
     part = "full order,";
     if (made.answer.len != 885)
         wrong(made.text, 0, 0, "the made listing should have 885 bytes");
+    call_all(made.text, answer_of(made.answer));
+}
+
+static void call_full_late(void)
+{
+    struct pair made = full_late();
+    part = "full late,";
+    if (made.answer.len != 1021)
+        wrong(made.text, 0, 0, "the made listing should have 1021 bytes");
     call_all(made.text, answer_of(made.answer));
 }
 
@@ -361,6 +370,7 @@ int main(int argc, char **argv)
         call_damaged(next.text);
     }
     call_full_order();
+    call_full_late();
     call_full_core();
     printf("buffers: %lu texts, %lu calls, %lu wrong\n", texts, calls, wrongs);
     return wrongs > 0;

@@ -105,6 +105,7 @@ int main(int argc, char **argv)
         call_there(take_until(&stored, '\f'));
     call_there(full_order().text);
     call_there(full_core().text);
+    call_there(full_late().text);
     call_there(hostile());
     printf("stack: %lu calls, %zu bytes at most, ORDERS_STACK is %d\n", calls, need(), ORDERS_STACK);
     return need() > ORDERS_STACK;

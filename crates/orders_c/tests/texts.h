@@ -73,7 +73,7 @@ static inline long last_number(struct bytes line, const char *word)
     return strtol(number, NULL, 10);
 }
 
-/* Takes the next answer off: one `bad` line, or a head line and as many lines as it says. */
+/* Takes the next answer off: one `bad` line, or a head line and as many lines as it says, and late lines. */
 static inline struct bytes take_answer(struct bytes *rest)
 {
     struct bytes answer = { rest->at, 0 }, head = take_until(rest, '\n');
@@ -83,6 +83,8 @@ static inline struct bytes take_answer(struct bytes *rest)
         exit(2);
     }
     while (lines-- > 0)
+        take_until(rest, '\n');
+    while (rest->len >= 5 && memcmp(rest->at, "late\t", 5) == 0)
         take_until(rest, '\n');
     answer.len = (size_t)(rest->at - answer.at);
     return answer;
@@ -153,6 +155,24 @@ static inline struct pair full_core(void)
         PUT(text, made.text.len, "r\t%d\t%d\n", k % 64, (k + 1) % 64);
     for (int k = 0; k < 64; k++)
         PUT(listing, made.answer.len, "%d\t%d\t%d\n", k + 64, k, (k + 1) % 64);
+    return made;
+}
+
+/*
+ * 64 tasks with 128 rules, each of them late: with all others above it each has
+ * response 1000000, its period. The longest listing of late tasks, 1021 bytes.
+ */
+static inline struct pair full_late(void)
+{
+    static uint8_t text[ORDERS_TEXT_MAX], listing[ORDERS_LISTING_MAX];
+    struct pair made = { { text, 0 }, { listing, 0 } };
+    PUT(listing, made.answer.len, "core\t0\n");
+    for (int k = 0; k < 64; k++) {
+        PUT(text, made.text.len, "t\t1\t1000000\t1\t0\t999936\n");
+        PUT(listing, made.answer.len, "late\t%d\t1000000\n", k);
+    }
+    for (int k = 0; k < 128; k++)
+        PUT(text, made.text.len, "r\t%d\t%d\n", k % 64, (k + 1) % 64);
     return made;
 }
 

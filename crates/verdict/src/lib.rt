@@ -238,9 +238,9 @@ pub fn decide(rows: &[u64], rules: &[u64]) -> Decided
             left,
         };
     }
-    let none = core(rows, rules, active, found);
-    let core = none.core;
-    let left = none.left;
+    let unschedulable = core(rows, rules, active, found);
+    let core = unschedulable.core;
+    let left = unschedulable.left;
     Decided {
         verdict: Verdict {
             answer: Answer::Core,

@@ -25,11 +25,11 @@ module _ (s : tie.Start) where
   abbrev rest : List ℕ
   rest = linesOf [] (chunks width body)
 
-  abbrev tasks : List ℕ
-  tasks = linesOf late (chunks lateWidth (now (s .args .late)))
+  abbrev lates : List ℕ
+  lates = linesOf late (chunks lateWidth (now (s .args .late)))
 
   abbrev all : List ℕ
-  all = top ++ rest ++ tasks
+  all = top ++ rest ++ lates
 
   abbrev was : List ℕ
   was = now (s .args .out)
@@ -37,8 +37,8 @@ module _ (s : tie.Start) where
   whole : all ≡ listingWith (now (s .args .head)) (chunks width body) (chunks lateWidth (now (s .args .late)))
   whole = listing-parts (now (s .args .head)) body (now (s .args .late))
 
-  parts : length all ≡ length top + length rest + length tasks
-  parts = omega (arith, length-append (top ++ rest) tasks, length-append top rest)
+  parts : length all ≡ length top + length rest + length lates
+  parts = omega (arith, length-append (top ++ rest) lates, length-append top rest)
 
 -- the places: the start, the sizes, the head line written, and the others
 abbrev begun : tie.After-lines-size2 → tie.Start
@@ -137,7 +137,7 @@ put-lines-requires-2 c κs =
     let known = c .before .before in
     let put = known .before .before in
     let fit = fitting (head-put put) in
-    (omega arith, tail-room (lines-in put) (tasks (begun (fit .before))) (omega (arith, sized (fit .before), fit .if1 .left)))
+    (omega arith, tail-room (lines-in put) (lates (begun (fit .before))) (omega (arith, sized (fit .before), fit .if1 .left)))
 
 returns-2 : tie.Need-returns-2
 returns-2 c =

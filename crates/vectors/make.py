@@ -239,6 +239,7 @@ def verdicts():
     yield whole, late((0, 4))
     yield whole + EASY, late((0, 0), (1, 0))
     yield EASY + whole + r(0, 1), late((0, 0), (1, 0))
+    yield EASY + whole + r(0, 1) + r(1, 0), late((0, 0), (1, 0))
     yield t(1, 4, 3, 2, 0), order((0, 3))
     yield t(2, 4, 4, 0, 0) * 2, order((0, 2), (1, 4))
     yield t(2, 4, 4, 0, 0) + t(2, 4, 3, 0, 0), order((1, 2), (0, 4))

@@ -180,7 +180,7 @@ static void nearly_full(struct text *t)
 }
 
 /*
- * Hostile. Of the small tasks below those six 33 stand in circles of rules. The other 25 are blocked so long that each
+ * Hostile. Of the small tasks below those six, 33 stand in circles of rules. The other 25 are blocked so long that each
  * is late, which takes a thousand rounds to see, until its own level is reached; the last one typed may only stand
  * highest, so each level tries them all.
  */

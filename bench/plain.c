@@ -173,7 +173,7 @@ static bool fill_level(const struct task_set *s, const bool *active, bool *left,
     return false;
 }
 
-/* Fills the levels from the lowest upward; false when no order is valid, with the tasks that have no level left. */
+/* Fills the levels from the lowest upward; false when no order is valid, and `left` then marks the tasks without a level. */
 static bool find_order(const struct task_set *s, const bool *active, bool *left, struct order *order)
 {
     memset(left, 1, MAX_TASKS);

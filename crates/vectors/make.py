@@ -313,8 +313,11 @@ def main(program, stage, seed, count, room):
         texts.append(text)
         answers.append(got)
     check_refusals(answers[drawn:])
+    joined = b"\f".join(texts)
+    if len(joined) > 524288:
+        sys.exit("make.py: %d bytes of texts are more than the program reads" % len(joined))
     with open(room + "/stdin", "wb") as stdin, open(room + "/stdout", "w") as stdout:
-        stdin.write(b"\f".join(texts))
+        stdin.write(joined)
         stdout.write("".join(answers))
     print("%d drawn texts and %d made ones" % (drawn, len(texts) - drawn))
 

@@ -20,7 +20,7 @@ use Rattle.text.specs.Text.{areNumbers, hasForm, asked, readFrom, reading}
 use Rattle.response.specs.declared.Response.{Response}
 use Rattle.response.specs.declared.Response.the-variants.{Within}
 use Rattle.response.specs.Equation.{interference, demand, windowFrom, windowOf, responseOf}
-use Rattle.response.specs.Timing.{timingOf}
+use Rattle.response.specs.Timing.{timingBy}
 use Rattle.assignment.specs.LateTasks.{unassignable}
 use Rattle.assignment.specs.Orders.{everyRule, hp, ValidOrder, SomeOrder}
 use Rattle.assignment.specs.Audsley.{unassigned, ready, mayTake, fill, feasible, responseAt}
@@ -101,7 +101,8 @@ heard-whole l e = subst Sound e (heard-sound noLists none-sound (callsOf l))
 pub cases : Cases
 unfolding report reading readFrom parts asked hasForm areNumbers isNumber areDigits valueAfter
     deciding linesBelow flatMap line linesOf listingWith decimal digitsIn verdictOn staying tried feasible fill mayTake ready
-    unassigned unassignable greatest all timingOf responseOf windowOf windowFrom demand interference sum hear heard refusalBy rowRefusals indexRefusals
+    unassigned unassignable greatest all timingBy responseOf windowOf windowFrom demand interference sum hear heard refusalBy
+    rowRefusals indexRefusals
 cases =
     record {
       k1 = refl;

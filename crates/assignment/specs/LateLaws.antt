@@ -1,6 +1,6 @@
--- Who is left without a level where no rule is active, for any test that fewer tasks above can't break: the same tasks whichever
--- of those that may takes each level, for they are the greatest set of tasks of which each fails with the others above it. Then
--- for document 01's test. Assumes nothing.
+-- Who is left without a level. Where no rule is active these are, for any test that fewer tasks above can't break, the same tasks
+-- whichever of those that may takes each level: the largest set of tasks of which each fails with the others above it. Then for
+-- document 01's test. Assumes nothing.
 use mathlib.Core.Path.{_≡_, refl, sym, subst, _∙_, fun-ext}
 use mathlib.Core.Bool.{Bool, false}
 use mathlib.Core.List.{List, [], _∷_}
@@ -12,20 +12,22 @@ use lib.Dec.{T, eqb, eqb→eq, eqb-refl}
 use lib.ListN.{length, getD, drop, replicate}
 use Rattle.sets.specs.Choice.{same-test, refuted→false}
 use Rattle.sets.specs.Bounded.{Subset, without, without-still, without-other, count, count-some, count-pos}
+use Rattle.sets.specs.Rank.{Distinct, distinct-cons}
 use Rattle.sets.specs.Marks.{marked, marked-none}
+use Rattle.taskset.specs.declared.Rule.{Rule}
 use Rattle.taskset.specs.Model.{Lists, taskAt, Sound}
 use Rattle.response.specs.declared.Response.{Response}
 use Rattle.response.specs.declared.Timing.{Timing}
-use Rattle.response.specs.declared.Timing.the-variants.{Meets, Misses, PastPeriod}
+use Rattle.response.specs.declared.Timing.the-variants.{Met, Missed, PastPeriod}
 use Rattle.response.specs.Equation.{demand}
-use Rattle.response.specs.Timing.{SaysTiming, timing, upToDeadline, reported}
+use Rattle.response.specs.Timing.{SaysTiming, timingOf, upToDeadline, reported}
 use Rattle.response.specs.TimingLaws.{timing-says}
 use Rattle.assignment.specs.declared.Search.{Search}
-use Rattle.assignment.specs.Orders.{noRule, MeetsDeadline, SomeOrder}
-use Rattle.assignment.specs.Canonical.{MayTake}
-use Rattle.assignment.specs.LateTasks.{CanonicalSearch, AllMiss, LateResponse, LateTasks, unassignable, lateResponse}
+use Rattle.assignment.specs.Orders.{IsOrder, noRule, MeetsDeadline, SomeOrder}
+use Rattle.assignment.specs.Canonical.{MayTake, Canonical}
+use Rattle.assignment.specs.LateTasks.{CanonicalSearch, AllMiss, SearchEnds, LateResponse, LateTasks, unassignable, lateResponse}
 use Rattle.assignment.specs.Audsley.{Problem, Passes, isWithin, unassigned, assign, feasible, Filled, empty, level, Stuck, problem}
-use Rattle.assignment.specs.Levels.{unassigned-of, unassigned-is, unassigned-cons, may-other}
+use Rattle.assignment.specs.Levels.{unassigned-of, unassigned-is, assigned, unassigned-cons, levels-count, left-unassigned, may-other}
 use Rattle.assignment.specs.Decision.{Lawful, test-may, may-test, filled-at, filled-count, assign-ends, assign-filled}
 use Rattle.assignment.specs.CanonicalLaws.{assign-greatest}
 use Rattle.assignment.specs.Preemptive.{meets-exactly, lawful, feasible-order}
@@ -33,32 +35,83 @@ use Rattle.assignment.specs.Ready.{level-stops}
 use Rattle.assignment.specs.Search.{Ended}
 use Rattle.assignment.specs.Filling.{searched-fewer}
 
--- ---- a search by its words is one that may have filled its levels so
+-- ---- who took the levels, for any meaning of a deadline met
+
+module _ (n : ℕ) (rules : List Rule) (Meets : ℕ → (ℕ → Bool) → Type 0) (active : ℕ → Bool) where
+  -- each of the tasks of `low` might take its level
+  abbrev EachMay : List ℕ → Type 0
+  EachMay low = (k : ℕ) → k < length low → MayTake rules Meets active (unassigned n (drop (suc k) low)) (getD low k 0)
+
+  -- so they are some of the n tasks, each once
+  each-only : (low : List ℕ) → EachMay low → (k : ℕ) → k < length low → getD low k 0 < n
+  each-only low each k h = unassigned-is n (drop (suc k) low) (getD low k 0) (each k h .isLeft) .0
+
+  each-once : (low : List ℕ) → EachMay low → Distinct low
+  each-once [] each = λ i j l h. absurd (not-suc-le-zero h)
+  each-once (i ∷ low) each =
+      distinct-cons i low (unassigned-is n low i (each 0 (omega arith) .isLeft) .1) (each-once low (λ k h. each (suc k) (suc-le-suc h)))
+
+  -- with every level filled nobody is left
+  none-left : (low : List ℕ) → EachMay low → length low ≡ n → (i : ℕ) → T (unassigned n low i) → ⊥
+  none-left low each whole i t =
+      let all = levels-count n low (each-only low each) (each-once low each) in
+      omega (arith, count-pos n (unassigned n low) i (unassigned-is n low i t .0) t)
+
+  -- and then the search of (a) has found the order of (a)
+  pub canonical-search : (low : List ℕ) → length low ≡ n → CanonicalSearch n rules Meets active low ↔ Canonical n rules Meets active low
+  canonical-search low whole = (found, back)
+    where
+      found : CanonicalSearch n rules Meets active low → Canonical n rules Meets active low
+      found s =
+          let each = s .ended .each in
+          let is : IsOrder n low =
+          record {
+            only = each-only low each;
+            every = λ i h. assigned n low i h (none-left low each whole i);
+            once = each-once low each;
+          }
+          in
+          record {
+            isOrder = is;
+            each = λ k h. rw (left-unassigned is k h) (each k h);
+            greatest = λ k h i m. s .greatest k h i (rw (left-unassigned is k h) at m);
+          }
+
+      back : Canonical n rules Meets active low → CanonicalSearch n rules Meets active low
+      back c =
+          let is = c .isOrder in
+          record {
+            ended =
+                record {
+                  each = λ k h. subst (λ (left : ℕ → Bool). MayTake rules Meets active left (getD low k 0)) (left-unassigned is k h) (c .each k h);
+                  nobody = λ i m. let un = unassigned-is n low i (m .isLeft) in un .1 (is .every i (un .0));
+                };
+            greatest = λ k h i m.
+                c .greatest k h i (subst (λ (left : ℕ → Bool). MayTake rules Meets active left i) (sym (left-unassigned is k h)) m);
+          }
+
+-- ---- by a test such a search is one that may have filled its levels so
 
 module _ (p : Problem) (active : ℕ → Bool) where
   abbrev n : ℕ
   n = p .tasks
 
-  abbrev EachMay : List ℕ → Type 0
-  EachMay low = (k : ℕ) → k < length low → MayTake (p .rules) (Passes p) active (unassigned n (drop (suc k) low)) (getD low k 0)
+  abbrev EachPasses : List ℕ → Type 0
+  EachPasses = EachMay n (p .rules) (Passes p) active
 
-  each-filled : (low : List ℕ) → EachMay low → Filled p active low
+  each-filled : (low : List ℕ) → EachPasses low → Filled p active low
   each-filled [] each = empty
   each-filled (i ∷ low) each =
       let may = each 0 (omega arith) in
       level i low (unassigned-is n low i (may .isLeft) .0) (may-test p active (unassigned n low) i may)
       (each-filled low (λ k h. each (suc k) (suc-le-suc h)))
 
-  filled-may : (low : List ℕ) → Filled p active low → EachMay low
-  filled-may low f k h = test-may p active (unassigned n (drop (suc k) low)) (getD low k 0) (filled-at p active low f k h)
-
-  -- with every level filled nobody is left
-  none-left : (low : List ℕ) → Filled p active low → length low ≡ n → (i : ℕ) → T (unassigned n low i) → ⊥
-  none-left low f whole i t =
-      omega (arith, filled-count p active low f, count-pos n (unassigned n low) i (unassigned-is n low i t .0) t)
+  filled-each-may : (low : List ℕ) → Filled p active low → EachPasses low
+  filled-each-may low f k h = test-may p active (unassigned n (drop (suc k) low)) (getD low k 0) (filled-at p active low f k h)
 
   full-stuck : (low : List ℕ) → Filled p active low → length low ≡ n → Stuck p active (unassigned n low)
-  full-stuck low f whole i h t = none-left low f whole i (test-may p active (unassigned n low) i t .isLeft)
+  full-stuck low f whole i h t =
+      none-left n (p .rules) (Passes p) active low (filled-each-may low f) whole i (test-may p active (unassigned n low) i t .isLeft)
 
   -- so where the assignment ends nobody may take the next level
   assign-stuck : Stuck p active (unassigned n (assign p active))
@@ -139,11 +192,17 @@ module _ (l : Lists) (sound : Sound l) where
   m = length (l .tasks)
 
   -- by the words and by the test the same tasks may take a level
-  words-may : {rest : ℕ → Bool} {i : ℕ} → MayTake (l .rules) (Passes p) noRule rest i → MayTake (l .rules) (MeetsDeadline (l .tasks)) noRule rest i
-  words-may = may-other (λ i above. meets-exactly (l .tasks) i above .0) (λ k h on. on)
+  abbrev MayByWords : (ℕ → Bool) → ℕ → Type 0
+  MayByWords = MayTake (l .rules) (MeetsDeadline (l .tasks)) noRule
 
-  test-may-words : {rest : ℕ → Bool} {i : ℕ} → MayTake (l .rules) (MeetsDeadline (l .tasks)) noRule rest i → MayTake (l .rules) (Passes p) noRule rest i
-  test-may-words = may-other (λ i above. meets-exactly (l .tasks) i above .1) (λ k h on. on)
+  abbrev MayByTest : (ℕ → Bool) → ℕ → Type 0
+  MayByTest = MayTake (l .rules) (Passes p) noRule
+
+  by-words : {rest : ℕ → Bool} {i : ℕ} → MayByTest rest i → MayByWords rest i
+  by-words = may-other (λ i above. meets-exactly (l .tasks) i above .0) (λ k h on. on)
+
+  by-test : {rest : ℕ → Bool} {i : ℕ} → MayByWords rest i → MayByTest rest i
+  by-test = may-other (λ i above. meets-exactly (l .tasks) i above .1) (λ k h on. on)
 
   abbrev low : List ℕ
   low = assign p noRule
@@ -151,16 +210,16 @@ module _ (l : Lists) (sound : Sound l) where
   abbrev rest : ℕ → Bool
   rest = unassigned m low
 
-  search-is : CanonicalSearch m (l .rules) (MeetsDeadline (l .tasks)) noRule low
-  search-is =
+  search-ends : SearchEnds l low
+  search-ends =
       record {
-        ends =
+        ended =
             record {
-              each = λ k h. words-may (filled-may p noRule low (assign-filled p noRule) k h);
+              each = λ k h. by-words (filled-each-may p noRule low (assign-filled p noRule) k h);
               nobody = λ i may.
-                  assign-stuck p noRule i (unassigned-is m low i (may .isLeft) .0) (may-test p noRule rest i (test-may-words may));
+                  assign-stuck p noRule i (unassigned-is m low i (may .isLeft) .0) (may-test p noRule rest i (by-test may));
             };
-        greatest = λ k h i may. assign-greatest p noRule k h i (test-may-words may);
+        greatest = λ k h i may. assign-greatest p noRule k h i (by-test may);
       }
 
   fails : AllMiss m (Passes p) rest
@@ -173,21 +232,22 @@ module _ (l : Lists) (sound : Sound l) where
       let at = taskAt (l .tasks) i in
       let above = without rest i in
       let d = demand (l .tasks) i above in
-      go (timing (l .tasks) i above) (timing-says d (at .jitter) (at .deadline) (at .period))
+      go (timingOf (l .tasks) i above) (timing-says d (at .jitter) (at .deadline) (at .period))
       (λ s. fails i inside t (subst (λ (a : Response). T (isWithin a)) (sym (level-stops (l .tasks) (sound .tasks) i inside above)) s))
     where
       go : (a : Timing) → SaysTiming (l .tasks) i (without rest i) a → (T (isWithin (upToDeadline a)) → ⊥)
           → LateResponse (l .tasks) i (without rest i) (reported a)
-      go (Meets r) s late = absurd (late tt)
-      go (Misses r) s late = record { some = λ h. s; none = λ z. absurd (omega (arith, s .1, z)) }
-      go PastPeriod s late = record { some = λ h. absurd (omega arith); none = λ z. s }
+      go (Met r) s late = absurd (late tt)
+      go (Missed r) s late = record { positive = λ h. s; zero = λ z. absurd (omega (arith, s .1, z)) }
+      go PastPeriod s late = record { positive = λ h. absurd (omega arith); zero = λ z. s }
 
-  some-left : ((i : ℕ) × T (rest i)) ↔ (SomeOrder l noRule → ⊥)
+  anyone-left : ((i : ℕ) × T (rest i)) ↔ (SomeOrder l noRule → ⊥)
   unfolding feasible
-  some-left =
+  anyone-left =
       let few = filled-count p noRule low (assign-filled p noRule) in
+      let each = filled-each-may p noRule low (assign-filled p noRule) in
       let f = feasible-order l sound noRule in (
-        λ s o. none-left p noRule low (assign-filled p noRule) (eqb→eq (length low) m (f .1 o)) (s .0) (s .1),
+        λ s o. none-left m (l .rules) (Passes p) noRule low each (eqb→eq (length low) m (f .1 o)) (s .0) (s .1),
         λ none.
             ⊎-elim
             (λ z. absurd (none (f .0 (subst (λ (k : ℕ). T (eqb k m)) (omega arith) (eqb-refl m)))))
@@ -199,16 +259,16 @@ module _ (l : Lists) (sound : Sound l) where
   unfolding unassignable
   late-tasks =
       record {
-        search = (low, search-is, refl);
+        search = (low, search-ends, refl);
         every = λ other e.
-            left-same p (lawful l sound) other low (each-filled p noRule other (λ k h. test-may-words (e .each k h)))
-            (assign-filled p noRule) (λ i h t. e .nobody i (words-may (test-may p noRule (unassigned m other) i t)))
+            left-same p (lawful l sound) other low (each-filled p noRule other (λ k h. by-test (e .each k h)))
+            (assign-filled p noRule) (λ i h t. e .nobody i (by-words (test-may p noRule (unassigned m other) i t)))
             (assign-stuck p noRule);
         misses = λ i h t meets. fails i h t (meets-exactly (l .tasks) i (without rest i) .1 meets);
-        greatest = λ set miss.
+        largest = λ set miss.
             fail-stay p (lawful l sound) set (λ i h t passes. miss i h t (meets-exactly (l .tasks) i (without set i) .0 passes)) low
             (assign-filled p noRule);
-        some = some-left;
+        anyone = anyone-left;
         responses = response-is;
       }
 

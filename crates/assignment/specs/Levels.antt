@@ -155,7 +155,8 @@ module _ {n : ℕ} {order : List ℕ} (is : IsOrder n order) where
           meets = subst (Meets i) (before-left k h) (v .meets i (is .only k h));
         }
 
-    pub each-valid : ((m : ℕ) → m < length rules → ruleAt rules m .higher .0 < n) → EachMayTake rules Meets active order → Valid n rules Meets active order
+    pub each-valid : ((m : ℕ) → m < length rules → ruleAt rules m .higher .0 < n) → EachMayTake rules Meets active order
+        → Valid n rules Meets active order
     each-valid indices each =
         record {
           isOrder = is;

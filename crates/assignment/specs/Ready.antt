@@ -15,7 +15,7 @@ use Rattle.taskset.specs.Model.{taskAt, ruleAt, SoundTasks}
 use Rattle.response.specs.declared.Response.{Response}
 use Rattle.response.specs.declared.Response.the-variants.{Within, Late}
 use Rattle.response.specs.Equation.{demand, responseTime}
-use Rattle.response.specs.Timing.{timing, upToDeadline}
+use Rattle.response.specs.Timing.{timingOf, upToDeadline}
 use Rattle.response.specs.TimingLaws.{timing-stops}
 use Rattle.assignment.specs.declared.Choice.the-variants.{Takes, Nobody}
 use Rattle.assignment.specs.Audsley.{Test, isWithin, blocks, ready, responseAt}
@@ -82,16 +82,16 @@ ready-end m rules active left e = rw e
 
 -- ---- a candidate's response
 
--- it is the one up to the period, where that meets the deadline
+-- stopping at the deadline answers what the search to the period would
 pub level-stops : (tasks : List Task) → SoundTasks tasks → (i : ℕ) → i < length tasks → (above : ℕ → Bool)
-    → responseAt tasks i above ≡ upToDeadline (timing tasks i above)
+    → responseAt tasks i above ≡ upToDeadline (timingOf tasks i above)
 level-stops tasks sound i h above =
     let own = taskAt tasks i in
     timing-stops (demand tasks i above) (own .jitter) (own .deadline) (own .period) (sound .each i h .deadline .1)
 
 pub level-response-is : (tasks : List Task) → SoundTasks tasks → (i : ℕ) → i < length tasks → (left above : ℕ → Bool) → above ≡ without left i
     → (own : Task) → own ≡ taskAt tasks i → (a : Response) → a ≡ responseTime tasks i above (own .deadline)
-    → (a ≡ responseAt tasks i (without left i)) × (a ≡ upToDeadline (timing tasks i (without left i)))
+    → (a ≡ responseAt tasks i (without left i)) × (a ≡ upToDeadline (timingOf tasks i (without left i)))
 level-response-is tasks sound i h left above others own at a e =
     let is : a ≡ responseAt tasks i (without left i) = e ∙ rw (at, others) in
     (is, is ∙ level-stops tasks sound i h (without left i))

@@ -1,4 +1,4 @@
-// The revised Audsley assignment: levels filled from the lowest upward, for any active rules.
+// The revised Audsley assignment: levels filled from the lowest upward, for any active rules; and the response of a task left.
 
 ghost use mathlib.Core.Path.{_≡_};
 ghost use mathlib.Core.Bool.{false};
@@ -10,7 +10,7 @@ ghost use Rattle.sets.specs.Marks.{first, marked};
 ghost use Rattle.taskset.specs.Refusals.{maxTasks};
 ghost use Rattle.taskset.specs.Model.{SoundTasks, Sound};
 ghost use Rattle.taskset.specs.Words.{tasksIn, rulesIn, listsIn};
-ghost use Rattle.response.specs.Timing.{timing, upToDeadline};
+ghost use Rattle.response.specs.Timing.{timingOf, upToDeadline};
 ghost use Rattle.assignment.specs.Orders.{noRule, SomeOrder};
 ghost use Rattle.assignment.specs.LateTasks.{lateResponse};
 ghost use Rattle.assignment.specs.Audsley.{passes, ready, assign, responseAt, problem, bare};
@@ -100,7 +100,7 @@ fn level_response(rows: &[u64], left: [bool; MAX_TASKS], task: TaskIndex) -> Res
     requires { ⌜ SoundTasks (tasksIn (now rows)) ⌝ }
     requires { ⌜ task .0 < length (tasksIn (now rows)) ⌝ }
     ensures { λ r. ⌜ r ≡ responseAt (tasksIn (now (rows .entry))) (task .0) (without (marked left) (task .0)) ⌝ }
-    ensures stops { λ r. ⌜ r ≡ upToDeadline (timing (tasksIn (now (rows .entry))) (task .0) (without (marked left) (task .0))) ⌝ }
+    ensures stops { λ r. ⌜ r ≡ upToDeadline (timingOf (tasksIn (now (rows .entry))) (task .0) (without (marked left) (task .0))) ⌝ }
 {
     let own = task_in(rows, task.0);
     let above = others(left, task);
@@ -113,8 +113,7 @@ pub fn late_response(rows: &[u64], left: [bool; MAX_TASKS], task: TaskIndex) -> 
     requires { ⌜ task .0 < length (tasksIn (now rows)) ⌝ }
     ensures { λ r. ⌜ r ≡ lateResponse (tasksIn (now (rows .entry))) (marked left) (task .0) ⌝ }
 {
-    let rest = others(left, task);
-    reported(timing_of(rows, task, rest))
+    reported(timing_of(rows, task, others(left, task)))
 }
 
 // Of the ready tasks that meet their deadline, the one with the greatest index takes the level.

@@ -21,4 +21,4 @@ pub record Gives (l : Lists) (v : Verdict) (count : ℕ) (was is : List ℕ) : T
   -- document 02, (a)
   pub oneOrder : OneOrder l v
   -- document 02, (b)
-  pub late : LateLines l v (lateFor l v (v .answer))
+  pub late : LateLines l v (lateFor l (v .answer))

@@ -5,11 +5,9 @@ use mathlib.Core.List.{List, []}
 use mathlib.Core.Logic.{_⊎_, inl, inr}
 use Prim.Native.Nat.{ℕ, _≤_, _<_}
 use native.Mathlib.Omega.{arith}
-use borrow.Author.Tests.{eq-eqb, ne-eqb}
 use lib.Dec.{leb}
 use lib.ListN.{length}
 use Rattle.sets.specs.Choice.{pick, lt-or-le}
-use Rattle.sets.specs.Marks.{marked}
 use Rattle.sets.specs.Onto.{onto}
 use Rattle.taskset.specs.declared.TaskSet.{TaskSet}
 use Rattle.taskset.specs.Model.{Lists, Sound}
@@ -27,7 +25,7 @@ use Rattle.verdict.specs.Explained.{deciding-correct}
 use Rattle.verdict.specs.OneOrderLaws.{deciding-one}
 use Rattle.listing.specs.declared.Shown.{Shown}
 use Rattle.listing.specs.declared.Listed.{Listed}
-use Rattle.listing.specs.Listing.{ruleLine, lateLine, linesBelow, linesFor, lateFor, listing, Outcome, refused, shown, outcome, fitted, shownAs, listed, bufferAfter}
+use Rattle.listing.specs.Listing.{lateLine, lateFor, listing, Outcome, refused, shown, outcome, fitted, shownAs, listed, bufferAfter}
 use Rattle.listing.specs.LateLines.{EmptyCore, LateLines}
 use Rattle.listing.specs.Gives.{Gives}
 use Rattle.listing.specs.NumbersLaws.{lines-none, lines-some}
@@ -35,43 +33,28 @@ use Rattle.listing.specs.Showing.{outcome-shown, ListsAs}
 
 -- ---- the late lines
 
-module _ (l : Lists) (v : Verdict) where
-  abbrev inCore : ℕ → Bool
-  inCore = marked (v .core)
+module _ (l : Lists) (v : Verdict) (sound : Sound l) (ok : Correct l v) where
+  abbrev left : ℕ → Bool
+  left = unassignable l
 
-  abbrev count : ℕ
-  count = length (linesFor l v Core)
+  -- under a core with rules nobody is left
+  unchanged : (a : Answer) → v .answer ≡ a → (EmptyCore v → ⊥) → lateFor l a ≡ []
+  unchanged (Refused k) e full = refl
+  unchanged Order e full = refl
+  unchanged Core e full =
+      lines-none left (lateLine (l .tasks) left) (length (l .tasks))
+      (λ i h t. full (e, ok .empty e .1 (late-tasks l sound .anyone .0 (i, t))))
 
-  module _ (sound : Sound l) (ok : Correct l v) where
-    -- a core has no line exactly when it is empty
-    none-counted : EmptyCore v → count ≡ 0
-    none-counted empty = lines-none inCore (ruleLine (l .rules)) (length (l .rules)) (λ k h. empty .1 k)
-
-    counted-none : v .answer ≡ Core → count ≡ 0 → EmptyCore v
-    counted-none e z = (
-      e,
-      λ k t. omega (arith, z, lines-some inCore (ruleLine (l .rules)) (length (l .rules)) k (ok .rules e k t) t),
-    )
-
-    gained : EmptyCore v → lateFor l v (v .answer) ≡ linesBelow (unassignable l) (lateLine (l .tasks) (unassignable l)) (length (l .tasks))
-    gained empty = rw (empty .0, eq-eqb count 0 (none-counted empty))
-
-    unchanged : (a : Answer) → v .answer ≡ a → (EmptyCore v → ⊥) → lateFor l v a ≡ []
-    unchanged (Refused k) e full = refl
-    unchanged Order e full = refl
-    unchanged Core e full = rw (ne-eqb count 0 (λ z. full (counted-none e z)))
-
-    late-lines : LateLines l v (lateFor l v (v .answer))
-    late-lines =
-        let tasks = late-tasks l sound in
-        record {
-          gained = gained;
-          unchanged = unchanged (v .answer) refl;
-          some = λ empty.
-              let one = tasks .some .1 (ok .empty (empty .0) .0 (empty .1)) in
-              rw (gained empty) (lines-some (unassignable l) (lateLine (l .tasks) (unassignable l)) (length (l .tasks)) (one .0) (left-inside l (one .0) (one .1)) (one .1));
-          tasks = tasks;
-        }
+  pub late-lines : LateLines l v (lateFor l (v .answer))
+  late-lines =
+      record {
+        gained = λ empty. rw (empty .0);
+        unchanged = unchanged (v .answer) refl;
+        some = λ empty.
+            let one = late-tasks l sound .anyone .1 (ok .empty (empty .0) .0 (empty .1)) in
+            rw (empty .0) (lines-some left (lateLine (l .tasks) left) (length (l .tasks)) (one .0) (left-inside l (one .0) (one .1)) (one .1));
+        who = late-tasks l sound;
+      }
 
 -- ---- a refusal or a listing
 

@@ -23,4 +23,4 @@ pub record LateLines (l : Lists) (v : Verdict) (lines : List (List ℕ)) : Type 
   -- there is at least one line
   pub some : EmptyCore v → 1 ≤ length lines
   -- who is left, and what is reported of each
-  pub tasks : LateTasks l (unassignable l) (lateResponse (l .tasks) (unassignable l))
+  pub who : LateTasks l (unassignable l) (lateResponse (l .tasks) (unassignable l))

@@ -3,7 +3,7 @@
 use mathlib.Core.Bool.{Bool, true}
 use mathlib.Core.List.{List, [], _∷_, _++_}
 use Prim.Native.Nat.{ℕ, zero, suc}
-use lib.Dec.{leb, eqb}
+use lib.Dec.{leb}
 use lib.ListN.{length, getD}
 use Rattle.sets.specs.Choice.{pick}
 use Rattle.sets.specs.Marks.{marked}
@@ -48,17 +48,14 @@ linesFor l v (Refused k) = []
 linesFor l v Order = linesBelow (λ k. true) (levelLine (v .order) (v .responses)) (length (l .tasks))
 linesFor l v Core = linesBelow (marked (v .core)) (ruleLine (l .rules)) (length (l .rules))
 
--- every task left without a level; but only under a core of no rules
+-- every task left without a level; under a core with rules there is none (`LateLines`)
 abbrev pub lateRows : List Task → (ℕ → Bool) → List (List ℕ)
 lateRows tasks left = linesBelow left (lateLine tasks left) (length tasks)
 
-abbrev pub lateUnder : ℕ → List Task → (ℕ → Bool) → List (List ℕ)
-lateUnder size tasks left = pick (eqb size 0) (lateRows tasks left) []
-
-abbrev pub lateFor : Lists → Verdict → Answer → List (List ℕ)
-lateFor l v (Refused k) = []
-lateFor l v Order = []
-lateFor l v Core = lateUnder (length (linesFor l v Core)) (l .tasks) (unassignable l)
+abbrev pub lateFor : Lists → Answer → List (List ℕ)
+lateFor l (Refused k) = []
+lateFor l Order = []
+lateFor l Core = lateRows (l .tasks) (unassignable l)
 
 -- ---- bytes
 
@@ -68,16 +65,16 @@ word (Refused k) = []
 word Order = 111 ∷ 114 ∷ 100 ∷ 101 ∷ 114 ∷ tab ∷ []
 word Core = 99 ∷ 111 ∷ 114 ∷ 101 ∷ tab ∷ []
 
--- `late` and a tab
-abbrev pub late : List ℕ
-late = 108 ∷ 97 ∷ 116 ∷ 101 ∷ tab ∷ []
+-- `late`, and a tab
+abbrev pub lateHead : List ℕ
+lateHead = 108 ∷ 97 ∷ 116 ∷ 101 ∷ tab ∷ []
 
 -- the head line, with the count of the lines after it, those, and the late lines
 unfoldable pub listingWith : List ℕ → List (List ℕ) → List (List ℕ) → List ℕ
-listingWith head lines lates = line head (length lines ∷ []) ++ linesOf [] lines ++ linesOf late lates
+listingWith head lines lates = line head (length lines ∷ []) ++ linesOf [] lines ++ linesOf lateHead lates
 
 abbrev pub listing : Lists → Verdict → List ℕ
-listing l v = let a = v .answer in listingWith (word a) (linesFor l v a) (lateFor l v a)
+listing l v = let a = v .answer in listingWith (word a) (linesFor l v a) (lateFor l a)
 
 -- ---- into a buffer
 

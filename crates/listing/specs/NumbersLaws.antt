@@ -7,7 +7,6 @@ use Prim.Native.Nat.{ℕ, zero, suc, _+_, _*_, _≤_, _<_}
 use native.Mathlib.Nat.{le-of-suc-le-suc, eq-or-lt-of-le, add-zero, mul-zero, mul-suc, mul-le-mul-left}
 use native.Mathlib.Numerals.{add-one}
 use native.Mathlib.Omega.{arith}
-use borrow.Author.Tests.{eq-eqb, ne-eqb}
 use lib.Dec.{T}
 use lib.ListN.{length, getD, take, drop, set, length-append}
 use lib.Seq.{sets, sets-eq, length-sets, length-take-le, take-at, take-suc}
@@ -15,9 +14,8 @@ use Rattle.sets.specs.Choice.{pick, false→refuted, refuted→false}
 use Rattle.sets.specs.Flat.{flat-snoc}
 use Rattle.lines.specs.Line.{chunks}
 use Rattle.lines.specs.LineWriting.{AllWide, wide-snoc, chunks-back}
-use Rattle.taskset.specs.declared.Task.{Task}
-use Rattle.listing.specs.Listing.{lateLine, linesBelow, lateUnder}
-use Rattle.listing.specs.Numbers.{lateWidth, HasLines}
+use Rattle.listing.specs.Listing.{linesBelow}
+use Rattle.listing.specs.Numbers.{HasLines}
 
 -- ---- a row of numbers written one after the other
 
@@ -96,18 +94,18 @@ module _ (isIn : ℕ → Bool) (nums : ℕ → List ℕ) where
           (⊎-elim (λ here. absurd (false→refuted (isIn n) e (subst (λ (j : ℕ). T (isIn j)) here t))) (λ l. under l t)
           (eq-or-lt-of-le (le-of-suc-le-suc h)))
 
-  pub lines-none : (n : ℕ) → ((i : ℕ) → i < n → T (isIn i) → ⊥) → length (lines n) ≡ 0
+  pub lines-none : (n : ℕ) → ((i : ℕ) → i < n → T (isIn i) → ⊥) → lines n ≡ []
   unfolding linesBelow
   lines-none zero out = refl
   lines-none (suc n) out =
       rw (refuted→false (isIn n) (out n (omega arith)), append-nil (lines n)) (lines-none n (λ i h. out i (omega arith)))
 
-  pub has-out : (k : ℕ) → isIn k ≡ false → lines k ≡ lines (k + 1)
+  has-out : (k : ℕ) → isIn k ≡ false → lines k ≡ lines (k + 1)
   unfolding linesBelow
   has-out k e = rw (add-one k, e, append-nil (lines k))
 
   -- as the code holds them: none yet, and one more
-  pub has-none : (wide : ℕ) (numbers : List ℕ) → HasLines wide (lines 0) numbers
+  has-none : (wide : ℕ) (numbers : List ℕ) → HasLines wide (lines 0) numbers
   unfolding linesBelow flatMap
   has-none wide numbers = rw (mul-zero wide)
 
@@ -119,7 +117,7 @@ module _ (isIn : ℕ → Bool) (nums : ℕ → List ℕ) where
         let all = lines-wide n in
         next (AllWide wide) n (wide-snoc wide (lines n) (nums n) all (same n)) all
 
-    pub has-in : (numbers : List ℕ) (n k : ℕ) → n ≡ length (lines k) → wide * n + wide ≤ length numbers → isIn k ≡ true
+    has-in : (numbers : List ℕ) (n k : ℕ) → n ≡ length (lines k) → wide * n + wide ≤ length numbers → isIn k ≡ true
         → HasLines wide (lines k) numbers
         → (n + 1 ≡ length (lines (k + 1))) × HasLines wide (lines (k + 1)) (sets numbers (wide * n) (nums k))
     unfolding linesBelow
@@ -170,17 +168,3 @@ unfolding linesBelow
 lines-length-all nums zero = refl
 lines-length-all nums (suc n) =
     omega (arith, lines-length-all nums n, length-append (linesBelow (λ k. true) nums n) (nums n ∷ []))
-
--- ---- the late lines under a core of so many rules
-
-module _ (size : ℕ) (tasks : List Task) (left : ℕ → Bool) where
-  abbrev pub HasLate : ℕ → List ℕ → Type 0
-  HasLate n numbers = (n ≡ length (lateUnder size tasks left)) × HasLines lateWidth (lateUnder size tasks left) numbers
-
-  pub late-none : (size ≡ 0 → ⊥) → (numbers : List ℕ) → HasLate 0 numbers
-  unfolding flatMap
-  late-none some numbers = rw (ne-eqb size 0 some) (refl, refl)
-
-  pub late-all : size ≡ 0 → {long k n : ℕ} {numbers : List ℕ} → k ≡ length tasks
-      → Written left (lateLine tasks left) lateWidth long k n numbers → HasLate n numbers
-  late-all none whole w = rw (eq-eqb size 0 none, ← whole) (w .count, w .has)

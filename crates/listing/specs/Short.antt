@@ -3,13 +3,11 @@
 use mathlib.Core.Path.{_≡_, refl, sym, ap, subst, _∙_}
 use mathlib.Core.Bool.{Bool, true, false}
 use mathlib.Core.List.{List, [], _∷_, _++_, flatMap, append-nil}
-use mathlib.Core.Logic.{⊎-elim}
+use mathlib.Core.Logic.{_⊎_, inl, inr, ⊎-elim}
 use Prim.Native.Nat.{ℕ, zero, suc, _+_, _*_, _^_, _≤_, _<_}
 use native.Mathlib.Nat.{mul-suc}
 use native.Mathlib.Numerals.{add-one}
 use native.Mathlib.Omega.{arith}
-use borrow.Author.Tests.{eqb-true}
-use lib.Dec.{eqb}
 use lib.ListN.{length, getD, take, length-append, List·getD-map, List·getD-eq-default}
 use lib.Seq.{getD-take}
 use Rattle.sets.specs.Choice.{pick, lt-or-le}
@@ -36,42 +34,42 @@ use Rattle.verdict.specs.Verdict.{deciding, solving}
 use Rattle.verdict.specs.Correct.{orderGiven, Correct}
 use Rattle.verdict.specs.Solving.{solving-cases}
 use Rattle.verdict.specs.Explained.{deciding-correct}
-use Rattle.listing.specs.Listing.{levelLine, ruleLine, lateLine, linesBelow, lateRows, linesFor, lateFor, word, late, listingWith, listing}
+use Rattle.listing.specs.Listing.{levelLine, ruleLine, lateLine, linesBelow, linesFor, lateFor, word, lateHead, listingWith, listing}
 use Rattle.listing.specs.Listing.{Outcome, refused, shown, outcome, maxListing}
-use Rattle.listing.specs.NumbersLaws.{lines-few}
-use Rattle.listing.specs.GivesLaws.{RefusedOrListed, refusal, verdict, decided-either}
+use Rattle.listing.specs.LateLines.{EmptyCore}
+use Rattle.listing.specs.NumbersLaws.{lines-few, lines-none}
+use Rattle.listing.specs.GivesLaws.{late-lines, RefusedOrListed, refusal, verdict, decided-either}
 
 -- ---- lines
 
--- a number below 10 ^ k before others, with the byte after it
-number-short : (k n : ℕ) (ns : List ℕ) → 1 ≤ k → n < 10 ^ k
-    → length (flatMap tabbed (n ∷ ns)) ≤ k + 1 + length (flatMap tabbed ns)
-unfolding flatMap
-number-short k n ns some h =
-    omega (arith, decimal-width k n some h, field-long n tab, length-append (tabbed n) (flatMap tabbed ns))
+-- numbers of at most so many digits each
+abbrev Digits : List ℕ → List ℕ → Type 0
+Digits [] [] = Unit
+Digits [] (n ∷ ns) = ⊥
+Digits (k ∷ ks) [] = ⊥
+Digits (k ∷ ks) (n ∷ ns) = (1 ≤ k) × (n < 10 ^ k) × Digits ks ns
 
--- a line of two such numbers, and of three
-pair-short : (head : List ℕ) (i j a b : ℕ) → 1 ≤ i → 1 ≤ j → a < 10 ^ i → b < 10 ^ j → length (line head (a ∷ b ∷ [])) ≤ length head + i + j + 2
+-- their bytes, with the one after each
+abbrev room : List ℕ → ℕ
+room [] = 0
+room (k ∷ ks) = k + 1 + room ks
+
+numbers-short : (ks ns : List ℕ) → Digits ks ns → length (flatMap tabbed ns) ≤ room ks
 unfolding flatMap
-pair-short head i j a b one two f s =
+numbers-short [] [] d = omega arith
+numbers-short [] (n ∷ ns) d = absurd d
+numbers-short (k ∷ ks) [] d = absurd d
+numbers-short (k ∷ ks) (n ∷ ns) d =
     omega (
       arith,
-      line-long head (a ∷ b ∷ []) (omega arith),
-      number-short i a (b ∷ []) one f,
-      number-short j b [] two s,
+      decimal-width k n (d .0) (d .1),
+      field-long n tab,
+      length-append (tabbed n) (flatMap tabbed ns),
+      numbers-short ks ns (d .2),
     )
 
-line-short : (i j k a b c : ℕ) → 1 ≤ i → 1 ≤ j → 1 ≤ k → a < 10 ^ i → b < 10 ^ j → c < 10 ^ k
-    → length (line [] (a ∷ b ∷ c ∷ [])) ≤ i + j + k + 3
-unfolding flatMap
-line-short i j k a b c one two three f s t =
-    omega (
-      arith,
-      line-long [] (a ∷ b ∷ c ∷ []) (omega arith),
-      number-short i a (b ∷ c ∷ []) one f,
-      number-short j b (c ∷ []) two s,
-      number-short k c [] three t,
-    )
+line-short : (head ks ns : List ℕ) → 1 ≤ length ns → Digits ks ns → length (line head ns) ≤ length head + room ks
+line-short head ks ns some d = omega (arith, line-long head ns some, numbers-short ks ns d)
 
 -- lines of at most b bytes
 lines-short : (b : ℕ) (head : List ℕ) (isIn : ℕ → Bool) (nums : ℕ → List ℕ) (n : ℕ) → ((k : ℕ) → k < n → length (line head (nums k)) ≤ b)
@@ -101,16 +99,16 @@ no-lines head = refl
 
 -- and the head line, with fewer than 10 ^ d lines
 listing-long : (d : ℕ) (head : List ℕ) (lines lates : List (List ℕ)) → 1 ≤ d → length lines < 10 ^ d
-    → length (listingWith head lines lates) ≤ length head + d + 1 + length (linesOf [] lines) + length (linesOf late lates)
+    → length (listingWith head lines lates) ≤ length head + d + 1 + length (linesOf [] lines) + length (linesOf lateHead lates)
 unfolding listingWith flatMap
 listing-long d head lines lates some few =
     let n = length lines in
     omega (
       arith,
-      length-append (line head (n ∷ []) ++ linesOf [] lines) (linesOf late lates),
+      length-append (line head (n ∷ []) ++ linesOf [] lines) (linesOf lateHead lates),
       length-append (line head (n ∷ [])) (linesOf [] lines),
       line-long head (n ∷ []) (omega arith),
-      number-short d n [] some few,
+      numbers-short (d ∷ []) (n ∷ []) (some, few, tt),
     )
 
 -- ---- of a verdict that is correct
@@ -134,8 +132,8 @@ module _ (l : Lists) (sound : Sound l) (v : Verdict) (ok : Correct l v) where
       ⊎-elim (λ u. ok .valid e .isOrder .only k u) (λ o. omega (arith, List·getD-eq-default order 0 o)) (lt-or-le k (length order)) in
       let nums = sound .tasks .each i task in
       let within = ok .responses e k h in
-      line-short 2 2 7 k (getD (v .order) k (index 0) .0) (getD (v .responses) k 0) (omega arith) (omega arith) (omega arith) (omega arith)
-      (omega arith) (omega arith)
+      line-short [] (2 ∷ 2 ∷ 7 ∷ []) (levelLine (v .order) (v .responses) k) (omega arith)
+      (omega arith, omega arith, (omega arith, omega arith, (omega arith, omega arith, tt)))
 
   -- a rule stands between two tasks
   rule-short : (k : ℕ) → k < length (l .rules) → length (line [] (ruleLine (l .rules) k)) ≤ 10
@@ -143,21 +141,23 @@ module _ (l : Lists) (sound : Sound l) (v : Verdict) (ok : Correct l v) where
       let few = sound .tasks .few in
       let few-rules = sound .few-rules in
       let rule = sound .indices k h in
-      line-short 3 2 2 k _ _ (omega arith) (omega arith) (omega arith) (omega arith) (omega arith) (omega arith)
+      line-short [] (3 ∷ 2 ∷ 2 ∷ []) (ruleLine (l .rules) k) (omega arith)
+      (omega arith, omega arith, (omega arith, omega arith, (omega arith, omega arith, tt)))
 
   -- a late task is one of them, and its response is within its period
-  late-short : (k : ℕ) → k < n → length (line late (lateLine (l .tasks) (unassignable l) k)) ≤ 16
+  late-short : (k : ℕ) → k < n → length (line lateHead (lateLine (l .tasks) (unassignable l) k)) ≤ 16
   late-short k h =
       let few = sound .tasks .few in
       let own = taskAt (l .tasks) k in
       let d = demand (l .tasks) k (without (unassignable l) k) in
       let within = reported-le d (own .jitter) (own .deadline) (own .period) in
       let nums = sound .tasks .each k h in
-      pair-short late 2 7 k _ (omega arith) (omega arith) (omega arith) (omega arith)
+      line-short lateHead (2 ∷ 7 ∷ []) (lateLine (l .tasks) (unassignable l) k) (omega arith)
+      (omega arith, omega arith, (omega arith, omega arith, tt))
 
   -- by the answer
   abbrev Short : Answer → Type 0
-  Short a = length (listingWith (word a) (linesFor l v a) (lateFor l v a)) ≤ maxListing
+  Short a = length (listingWith (word a) (linesFor l v a) (lateFor l a)) ≤ maxListing
 
   order-short : v .answer ≡ Order → Short Order
   order-short e =
@@ -167,39 +167,41 @@ module _ (l : Lists) (sound : Sound l) (v : Verdict) (ok : Correct l v) where
         arith,
         listing-long 2 (word Order) (linesFor l v Order) [] (omega arith) (omega arith),
         lines-short 14 [] (λ k. true) (levelLine (v .order) (v .responses)) n (level-short e),
-        no-lines late,
+        no-lines lateHead,
       )
 
-  -- with late lines under no others, or none
-  core-short : Short Core
-  core-short = go (eqb (length (linesFor l v Core)) 0) refl
+  -- late lines stand under no others
+  core-short : v .answer ≡ Core → Short Core
+  core-short e = go (lt-or-le (length (linesFor l v Core)) 1)
     where
-      go : (b : Bool) → eqb (length (linesFor l v Core)) 0 ≡ b
-          → let lates = pick b (lateRows (l .tasks) (unassignable l)) [] in
-          length (listingWith (word Core) (linesFor l v Core) lates) ≤ maxListing
-      go true f =
+      rules : length (linesOf [] (linesFor l v Core)) ≤ 10 * length (linesFor l v Core)
+      rules = lines-short 10 [] (marked (v .core)) (ruleLine (l .rules)) (length (l .rules)) rule-short
+
+      go : (length (linesFor l v Core) < 1) ⊎ (1 ≤ length (linesFor l v Core)) → Short Core
+      go (inl none) =
           let few = sound .tasks .few in
-          let lates = lateRows (l .tasks) (unassignable l) in
-          let none = eqb-true (length (linesFor l v Core)) 0 f in
+          let lates : length (lateFor l Core) ≤ n = lines-few _ _ n in
           omega (
             arith,
-            listing-long 3 (word Core) (linesFor l v Core) lates (omega arith) (omega arith),
-            lines-short 10 [] (marked (v .core)) (ruleLine (l .rules)) (length (l .rules)) rule-short,
-            lines-short 16 late (unassignable l) (lateLine (l .tasks) (unassignable l)) n late-short,
-            lines-few (unassignable l) (lateLine (l .tasks) (unassignable l)) n,
+            rules,
+            listing-long 3 (word Core) (linesFor l v Core) (lateFor l Core) (omega arith) (omega arith),
+            lines-short 16 lateHead (unassignable l) (lateLine (l .tasks) (unassignable l)) n late-short,
           )
-      go false f =
+      go (inr some) =
           let few = sound .few-rules in
           let lines : length (linesFor l v Core) ≤ length (l .rules) = lines-few _ _ (length (l .rules)) in
-          omega (
+          let full : EmptyCore v → ⊥ = λ empty.
+          omega (arith, some, ap length (lines-none (marked (v .core)) (ruleLine (l .rules)) (length (l .rules)) (λ k h. empty .1 k))) in
+          let nobody : lateFor l Core ≡ [] = ap (lateFor l) (sym e) ∙ late-lines l v sound ok .unchanged full in
+          rw nobody (omega (
             arith,
+            rules,
             listing-long 3 (word Core) (linesFor l v Core) [] (omega arith) (omega arith),
-            lines-short 10 [] (marked (v .core)) (ruleLine (l .rules)) (length (l .rules)) rule-short,
-            no-lines late,
-          )
+            no-lines lateHead,
+          ))
 
   listing-few : length (listing l v) ≤ maxListing
-  listing-few = ⊎-elim (λ e. subst Short (sym e) (order-short e)) (λ e. subst Short (sym e) core-short) (ok .one)
+  listing-few = ⊎-elim (λ e. subst Short (sym e) (order-short e)) (λ e. subst Short (sym e) (core-short e)) (ok .one)
 
 -- what is refused is not shown
 not-shown : (o : Outcome) (k : ℕ) (bytes : List ℕ) → o ≡ refused k → o ≡ shown bytes → ⊥

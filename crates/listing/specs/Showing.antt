@@ -1,14 +1,12 @@
 -- Laws of showing a verdict: one for each way out of the code that writes it. Assumes nothing.
 use mathlib.Core.Path.{_≡_, refl, sym, ap, ap₂, subst, _∙_}
-use mathlib.Core.Bool.{Bool, true, false}
+use mathlib.Core.Bool.{true, false}
 use mathlib.Core.List.{List, [], _∷_, _++_}
 use mathlib.Core.Logic.{_⊎_, inl, inr}
 use Prim.Native.Nat.{ℕ, _*_, _/_, _≤_, _<_}
 use native.Mathlib.Omega.{arith}
-use lib.Dec.{eqb}
 use lib.ListN.{length, take}
 use borrow.Author.Tests.{lt-leb, le-leb}
-use Rattle.sets.specs.Choice.{pick}
 use Rattle.sets.specs.Onto.{onto}
 use Rattle.lines.specs.Line.{line, linesOf, chunks}
 use Rattle.lines.specs.LineWriting.{AllWide, chunks-count}
@@ -16,7 +14,6 @@ use Rattle.taskset.specs.declared.TaskSet.{TaskSet}
 use Rattle.taskset.specs.Refusals.{maxTasks, maxRules}
 use Rattle.taskset.specs.Model.{Lists, Sound}
 use Rattle.taskset.specs.Adding.{isMade, lists}
-use Rattle.assignment.specs.LateTasks.{unassignable}
 use Rattle.verdict.specs.declared.Answer.{Answer}
 use Rattle.verdict.specs.declared.Answer.the-variants.{Refused, Order, Core}
 use Rattle.verdict.specs.declared.Solved.{Solved}
@@ -24,14 +21,14 @@ use Rattle.verdict.specs.declared.Verdict.{Verdict}
 use Rattle.verdict.specs.Verdict.{deciding, solving}
 use Rattle.verdict.specs.Solving.{solving-14, solving-made}
 use Rattle.listing.specs.declared.Shown.{Shown}
-use Rattle.listing.specs.Listing.{lateLine, lateRows, linesFor, lateFor, word, late, listingWith, listing}
+use Rattle.listing.specs.Listing.{linesFor, lateFor, word, lateHead, listingWith, listing}
 use Rattle.listing.specs.Listing.{Outcome, shown, outcomeFor, outcome, fitted, shownAs, listed, bufferAfter}
 use Rattle.listing.specs.Numbers.{width, maxNumbers, lateWidth, maxLate, HasLines}
 use Rattle.listing.specs.NumbersLaws.{lines-few, lines-wide, lines-back}
 
 -- the head line of as many lines as the numbers have, and then theirs
 pub listing-parts : (head body lates : List ℕ) → let lines = chunks width body in
-    line head (length body / width ∷ []) ++ linesOf [] lines ++ linesOf late (chunks lateWidth lates)
+    line head (length body / width ∷ []) ++ linesOf [] lines ++ linesOf lateHead (chunks lateWidth lates)
     ≡ listingWith head lines (chunks lateWidth lates)
 unfolding listingWith
 listing-parts head body lates = rw (chunks-count width body)
@@ -77,39 +74,34 @@ module _ (l : Lists) (v : Verdict) (sound : Sound l) where
       (omega arith, lines-wide _ _ width (λ k. refl) m)
 
   -- so are the late ones
-  late-fit : (a : Answer) → (length (lateFor l v a) ≤ maxTasks) × AllWide lateWidth (lateFor l v a)
+  late-fit : (a : Answer) → (length (lateFor l a) ≤ maxTasks) × AllWide lateWidth (lateFor l a)
   late-fit (Refused k) = (omega arith, tt)
   late-fit Order = (omega arith, tt)
-  late-fit Core = go (eqb (length (linesFor l v Core)) 0)
-    where
-      go : (b : Bool) → let lines = pick b (lateRows (l .tasks) (unassignable l)) [] in
-          (length lines ≤ maxTasks) × AllWide lateWidth lines
-      go true =
-          let n = length (l .tasks) in
-          let few = sound .tasks .few in
-          let less = lines-few (unassignable l) (lateLine (l .tasks) (unassignable l)) n in
-          (omega arith, lines-wide _ _ lateWidth (λ k. refl) n)
-      go false = (omega arith, tt)
+  late-fit Core =
+      let n = length (l .tasks) in
+      let few = sound .tasks .few in
+      let less : length (lateFor l Core) ≤ n = lines-few _ _ n in
+      (omega arith, lines-wide _ _ lateWidth (λ k. refl) n)
 
   -- numbers that hold them
   module _ (a : Answer) (numbers : List ℕ) (n : ℕ) (count : n ≡ length (linesFor l v a)) (has : HasLines width (linesFor l v a) numbers) where
     pub lines-inside : maxNumbers ≤ length numbers → (n ≤ maxRules) × (width * n ≤ length numbers)
     lines-inside room = let fit = lines-fit a .0 in (omega arith, omega arith)
 
-    module _ (lates : List ℕ) (m : ℕ) (left : m ≡ length (lateFor l v a)) (holds : HasLines lateWidth (lateFor l v a) lates) where
-      pub late-inside : maxLate ≤ length lates → (m ≤ maxTasks) × (lateWidth * m ≤ length lates)
+    module _ (late : List ℕ) (m : ℕ) (late-count : m ≡ length (lateFor l a)) (late-has : HasLines lateWidth (lateFor l a) late) where
+      pub late-inside : maxLate ≤ length late → (m ≤ maxTasks) × (lateWidth * m ≤ length late)
       late-inside room = let fit = late-fit a .0 in (omega arith, omega arith)
 
       -- what is shown of them is the outcome
       pub shows-lines : v .answer ≡ a → outcomeFor l v a ≡ shown (listing l v) → (buffer : List ℕ) (r : Shown) (xs : List ℕ)
-          → Shows buffer (shown (listingWith (word a) (chunks width (take (width * n) numbers)) (chunks lateWidth (take (lateWidth * m) lates)))) r xs
+          → Shows buffer (shown (listingWith (word a) (chunks width (take (width * n) numbers)) (chunks lateWidth (take (lateWidth * m) late)))) r xs
           → Shows buffer (outcome l v) r xs
       shows-lines e f buffer r xs =
           subst (λ (o : Outcome). Shows buffer o r xs)
           (ap₂ (λ (rs ts : List (List ℕ)). shown (listingWith (word a) rs ts))
           (lines-back width (linesFor l v a) (lines-fit a .1) (omega arith) numbers n count has)
-          (lines-back lateWidth (lateFor l v a) (late-fit a .1) (omega arith) lates m left holds)
-          ∙ ap (λ (b : Answer). shown (listingWith (word b) (linesFor l v b) (lateFor l v b))) (sym e)
+          (lines-back lateWidth (lateFor l a) (late-fit a .1) (omega arith) late m late-count late-has)
+          ∙ ap (λ (b : Answer). shown (listingWith (word b) (linesFor l v b) (lateFor l b))) (sym e)
           ∙ sym f
           ∙ ap (outcomeFor l v) (sym e))
 

@@ -12,7 +12,7 @@ ghost use Rattle.taskset.specs.Adding.{lists};
 ghost use Rattle.taskset.specs.Words.{tasksIn, rulesIn, listsIn};
 ghost use Rattle.assignment.specs.LateTasks.{unassignable};
 ghost use Rattle.verdict.specs.Verdict.{solving};
-ghost use Rattle.listing.specs.Listing.{ruleLine, linesBelow, lateUnder, listingWith, outcome, shown, fitted, shownAs, listed, bufferAfter};
+ghost use Rattle.listing.specs.Listing.{ruleLine, linesBelow, lateRows, listingWith, outcome, shown, fitted, shownAs, listed, bufferAfter};
 ghost use Rattle.listing.specs.Gives.{Gives};
 ghost use Rattle.listing.specs.Numbers.{width, maxNumbers, lateWidth, maxLate, HasLines, levelLines};
 use assignment::late_response;
@@ -37,9 +37,10 @@ use verdict::decide;
 // The bytes that are always enough for a listing.
 pub const MAX_LISTING: usize = 1289;
 
-// The numbers of a level's or a rule's line, and of a late line.
+// The numbers of a level's or a rule's line.
 const WIDTH: usize = 3;
 
+// The numbers of a late line.
 const LATE_WIDTH: usize = 2;
 
 // What showing a verdict answers: a refusal's number or 0, and the listing's byte count.
@@ -111,17 +112,13 @@ fn rule_lines(core: [bool; MAX_RULES], rules: &[u64], numbers: &mut [u64]) -> us
     count
 }
 
-// The late lines under a core of so many rules, none unless it is empty: each task left, rising, with its response; and how many
-// they are.
-fn late_lines(size: usize, left: [bool; MAX_TASKS], rows: &[u64], numbers: &mut [u64]) -> usize
+// The late lines: each task left, rising, with its response; and how many they are.
+fn late_lines(left: [bool; MAX_TASKS], rows: &[u64], numbers: &mut [u64]) -> usize
     requires { ⌜ SoundTasks (tasksIn (now rows)) ⌝ }
     requires { ⌜ maxLate ≤ length (now numbers) ⌝ }
-    ensures { λ r. ⌜ r ≡ length (lateUnder size (tasksIn (now (rows .entry))) (marked left)) ⌝ }
-    ensures lines { λ r. ⌜ HasLines lateWidth (lateUnder size (tasksIn (now (rows .entry))) (marked left)) (now (numbers .exit)) ⌝ }
+    ensures { λ r. ⌜ r ≡ length (lateRows (tasksIn (now (rows .entry))) (marked left)) ⌝ }
+    ensures lines { λ r. ⌜ HasLines lateWidth (lateRows (tasksIn (now (rows .entry))) (marked left)) (now (numbers .exit)) ⌝ }
 {
-    if size != 0 {
-        return 0;
-    }
     let n = rows.len() / TASK_WORDS;
     let mut count = 0;
     let mut k = 0;
@@ -148,10 +145,10 @@ fn write(head: &[u8], numbers: &[u64], late: &[u64], out: &mut [u8]) -> Shown
 {
     let n = numbers.len() / WIDTH;
     let count = [n as u64];
-    let word = b"late\t";
+    let late_head = b"late\t";
     let size = line_size(head.len(), &count)
         + lines_size(0, WIDTH, numbers)
-        + lines_size(word.len(), LATE_WIDTH, late);
+        + lines_size(late_head.len(), LATE_WIDTH, late);
     if out.len() < size {
         return Shown {
             refusal: 9,
@@ -160,7 +157,7 @@ fn write(head: &[u8], numbers: &[u64], late: &[u64], out: &mut [u8]) -> Shown
     }
     let mut at = put_line(out, head, &count);
     at += put_lines(&mut out[at..], b"", WIDTH, numbers);
-    put_lines(&mut out[at..], word, LATE_WIDTH, late);
+    put_lines(&mut out[at..], late_head, LATE_WIDTH, late);
     Shown {
         refusal: 0,
         count: size,
@@ -193,11 +190,11 @@ pub fn show(decided: Decided, rows: &[u64], rules: &[u64], out: &mut [u8]) -> Sh
             let core = verdict.core;
             let left = decided.left;
             let count = rule_lines(core, rules, &mut numbers);
-            let lates = late_lines(count, left, rows, &mut late);
+            let left_count = late_lines(left, rows, &mut late);
             write(
                 b"core\t",
                 &numbers[..WIDTH * count],
-                &late[..LATE_WIDTH * lates],
+                &late[..LATE_WIDTH * left_count],
                 out,
             )
         }

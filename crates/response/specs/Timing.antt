@@ -11,45 +11,45 @@ use Rattle.taskset.specs.Model.{taskAt}
 use Rattle.response.specs.declared.Response.{Response}
 use Rattle.response.specs.declared.Response.the-variants.{Within, Late}
 use Rattle.response.specs.declared.Timing.{Timing}
-use Rattle.response.specs.declared.Timing.the-variants.{Meets, Misses, PastPeriod}
+use Rattle.response.specs.declared.Timing.the-variants.{Met, Missed, PastPeriod}
 use Rattle.response.specs.Equation.{demand, Says, responseOf}
 
 -- ---- what each answer means
 
 -- a response within the period that meets the deadline, or misses it; or none within the period
-abbrev pub SaysTimingOf : (ℕ → ℕ) → ℕ → ℕ → ℕ → Timing → Type 0
-SaysTimingOf d jitter deadline period (Meets r) = Says d jitter period (Within r) × (r ≤ deadline)
-SaysTimingOf d jitter deadline period (Misses r) = Says d jitter period (Within r) × (deadline < r)
-SaysTimingOf d jitter deadline period PastPeriod = Says d jitter period Late
+abbrev pub SaysTimingBy : (ℕ → ℕ) → ℕ → ℕ → ℕ → Timing → Type 0
+SaysTimingBy d jitter deadline period (Met r) = Says d jitter period (Within r) × (r ≤ deadline)
+SaysTimingBy d jitter deadline period (Missed r) = Says d jitter period (Within r) × (deadline < r)
+SaysTimingBy d jitter deadline period PastPeriod = Says d jitter period Late
 
 -- of task i, with the tasks of `above` above it
 abbrev pub SaysTiming : List Task → ℕ → (ℕ → Bool) → Timing → Type 0
 SaysTiming tasks i above =
-    let own = taskAt tasks i in SaysTimingOf (demand tasks i above) (own .jitter) (own .deadline) (own .period)
+    let own = taskAt tasks i in SaysTimingBy (demand tasks i above) (own .jitter) (own .deadline) (own .period)
 
 -- ---- the same as functions
 
--- by the deadline
+-- whether a response meets the deadline
 abbrev pub judged : ℕ → Response → Timing
-judged deadline (Within r) = pick (leb r deadline) (Meets r) (Misses r)
+judged deadline (Within r) = pick (leb r deadline) (Met r) (Missed r)
 judged deadline Late = PastPeriod
 
-unfoldable pub timingOf : (ℕ → ℕ) → ℕ → ℕ → ℕ → Timing
-timingOf d jitter deadline period = judged deadline (responseOf d jitter period)
+unfoldable pub timingBy : (ℕ → ℕ) → ℕ → ℕ → ℕ → Timing
+timingBy d jitter deadline period = judged deadline (responseOf d jitter period)
 
-abbrev pub timing : List Task → ℕ → (ℕ → Bool) → Timing
-timing tasks i above = let own = taskAt tasks i in timingOf (demand tasks i above) (own .jitter) (own .deadline) (own .period)
+abbrev pub timingOf : List Task → ℕ → (ℕ → Bool) → Timing
+timingOf tasks i above = let own = taskAt tasks i in timingBy (demand tasks i above) (own .jitter) (own .deadline) (own .period)
 
 -- ---- the values of each answer
 
 -- the response as it is reported: 0, which is no response, where none lies within the period
 abbrev pub reported : Timing → ℕ
-reported (Meets r) = r
-reported (Misses r) = r
+reported (Met r) = r
+reported (Missed r) = r
 reported PastPeriod = 0
 
 -- what a search that stops at the deadline answers
 abbrev pub upToDeadline : Timing → Response
-upToDeadline (Meets r) = Within r
-upToDeadline (Misses r) = Late
+upToDeadline (Met r) = Within r
+upToDeadline (Missed r) = Late
 upToDeadline PastPeriod = Late

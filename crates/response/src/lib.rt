@@ -1,4 +1,4 @@
-// The response-time search of document 01: demand, response window, response.
+// The response-time search of document 01: demand, response window, response; and up to the period, by document 02, (b).
 
 ghost use mathlib.Core.Path.{_≡_};
 ghost use Prim.Native.Nat.{_+_, _^_, _≤_, _<_};
@@ -8,7 +8,7 @@ ghost use Rattle.taskset.specs.Refusals.{maxTasks, maxPeriod, InRanges};
 ghost use Rattle.taskset.specs.Model.{taskAt, SoundTasks};
 ghost use Rattle.taskset.specs.Words.{tasksIn};
 ghost use Rattle.response.specs.Equation.{ceil, interference, windowOf, responseTime, SaysResponse};
-ghost use Rattle.response.specs.Timing.{timing, SaysTiming, reported};
+ghost use Rattle.response.specs.Timing.{timingOf, SaysTiming, reported};
 ghost use Rattle.response.specs.Load.{Bounds, IsLoad, loadDemand, shareOf, StandsFor, scale, partOf, boundOf};
 use taskset::MAX_PERIOD;
 use taskset::MAX_TASKS;
@@ -47,8 +47,8 @@ pub enum Response {
 
 // The response of a task up to its period: one that meets its deadline, one that misses it, or that none lies within the period.
 pub enum Timing {
-    Meets(u64),
-    Misses(u64),
+    Met(u64),
+    Missed(u64),
     PastPeriod,
 }
 
@@ -276,7 +276,7 @@ pub fn response_time(
 pub fn timing_of(rows: &[u64], task: TaskIndex, above: [bool; MAX_TASKS]) -> Timing
     requires { ⌜ SoundTasks (tasksIn (now rows)) ⌝ }
     requires { ⌜ task .0 < length (tasksIn (now rows)) ⌝ }
-    ensures { λ r. ⌜ r ≡ timing (tasksIn (now (rows .entry))) (task .0) (marked above) ⌝ }
+    ensures { λ r. ⌜ r ≡ timingOf (tasksIn (now (rows .entry))) (task .0) (marked above) ⌝ }
     ensures says { λ r. ⌜ SaysTiming (tasksIn (now (rows .entry))) (task .0) (marked above) r ⌝ }
 {
     let own = task_in(rows, task.0);
@@ -284,9 +284,9 @@ pub fn timing_of(rows: &[u64], task: TaskIndex, above: [bool; MAX_TASKS]) -> Tim
         return Timing::PastPeriod;
     };
     if response <= own.deadline {
-        return Timing::Meets(response);
+        return Timing::Met(response);
     }
-    Timing::Misses(response)
+    Timing::Missed(response)
 }
 
 // The response as document 02 reports it: 0 where none lies within the period.
@@ -294,8 +294,8 @@ pub fn reported(t: Timing) -> u64
     ensures { λ r. ⌜ r ≡ reported t ⌝ }
 {
     match t {
-        Timing::Meets(response) => response,
-        Timing::Misses(response) => response,
+        Timing::Met(response) => response,
+        Timing::Missed(response) => response,
         Timing::PastPeriod => 0,
     }
 }

@@ -226,8 +226,8 @@ pub fn decide(rows: &[u64], rules: &[u64]) -> Decided
     let found = trial(rows, rules, active);
     let order = found.order;
     let responses = found.responses;
-    let left = found.left;
     if found.free == 0 {
+        let left = found.left;
         return Decided {
             verdict: Verdict {
                 answer: Answer::Order,

@@ -5,7 +5,7 @@ use Prim.Native.Nat.{ℕ}
 use borrow.Author.Needs.{needs}
 use denote.Ref.{now}
 use Rattle.taskset.specs.Words.{tasksIn}
-use Rattle.response.specs.Timing.{timing, reported}
+use Rattle.response.specs.Timing.{timingOf, reported}
 use Rattle.assignment.proofs.late_response.Statement.{statement}
 use Rattle.assignment.proofs.late_response.Tie as tie
 
@@ -16,7 +16,7 @@ returns c =
     let s = above .before .before in
     c .reported .ensures
     ∙ ap reported (found .timing-of .ensures .0)
-    ∙ ap (λ (f : ℕ → Bool). reported (timing (tasksIn (now (s .args .rows))) (s .args .task .0) f)) (above .others .ensures)
+    ∙ ap (λ (f : ℕ → Bool). reported (timingOf (tasksIn (now (s .args .rows))) (s .args .task .0) f)) (above .others .ensures)
 
 pub late-response-spec : {M : Type 1} → statement M
 late-response-spec = tie.close (tie.spec (λ c κs. search needs) (λ c κs. search needs) (λ c κs. search needs) returns)

@@ -1,5 +1,5 @@
 -- `listing::late_lines` meets its contract: the lines of the tasks below k that are left stand in the front. Assumes nothing.
-use mathlib.Core.Path.{_≡_, refl, sym, ap}
+use mathlib.Core.Path.{_≡_, refl, sym, ap, subst}
 use mathlib.Core.List.{_∷_, []}
 use mathlib.Core.Logic.{⊎-elim}
 use Prim.Native.Nat.{ℕ, _+_, _-_, _*_, _≤_, _<_}
@@ -10,22 +10,22 @@ use Rattle.sets.specs.Marks.{marked}
 use Rattle.taskset.specs.Refusals.{maxTasks}
 use Rattle.taskset.specs.Words.{tasksIn}
 use Rattle.taskset.specs.WordsLaws.{tasks-length}
-use Rattle.listing.specs.Listing.{lateLine}
-use Rattle.listing.specs.Numbers.{lateWidth}
-use Rattle.listing.specs.NumbersLaws.{Written, written-none, written-room, written-in, written-out, late-none, late-all}
+use Rattle.listing.specs.Listing.{lateLine, linesBelow}
+use Rattle.listing.specs.Numbers.{lateWidth, HasLines}
+use Rattle.listing.specs.NumbersLaws.{Written, written-none, written-room, written-in, written-out}
 use Rattle.listing.proofs.late_lines.Statement.{statement}
 use Rattle.listing.proofs.late_lines.Tie as tie
 
 abbrev Inv-loop : tie.InvT-loop
-Inv-loop rules rows numbers₀ left n count₀ k₀ numbers count k =
+Inv-loop rows numbers₀ left n count₀ k₀ numbers count k =
     (k ≤ n) × Written (marked left) (lateLine (tasksIn rows) (marked left)) lateWidth (length numbers₀) k count numbers
 
 abbrev μ-loop : tie.MeasureT-loop
-μ-loop rules rows numbers₀ left n count₀ k₀ numbers count k = n - k
+μ-loop rows numbers₀ left n count₀ k₀ numbers count k = n - k
 
 -- where a turn began
 abbrev start : tie.In-loop Inv-loop μ-loop → tie.Start Inv-loop μ-loop
-start c = let test = c .before .before in test .before .before .before
+start c = c .before .before .before .before
 
 -- the next task is one of the words', and few enough; and there is room for its line
 here : (c : tie.In-loop Inv-loop μ-loop) → let s = start c in
@@ -43,15 +43,11 @@ fits c = written-room (c .before .loop .inv .1) maxTasks (here c .1) (start c .p
 abbrev turn : tie.After-put-row-arg Inv-loop μ-loop → tie.In-loop Inv-loop μ-loop
 turn c = let test = c .before .before in test .before
 
--- rules in the core: no late lines
-returns : tie.Need-returns Inv-loop μ-loop
-returns c = late-none _ _ _ (c .if1 .taken) _
-
 loop-holds : tie.Need-loop-holds Inv-loop μ-loop
 loop-holds c = (omega arith, written-none refl)
 
-array-read-if2 : tie.Need-array-read-if2 Inv-loop μ-loop
-array-read-if2 c = here c .1
+array-read-if1 : tie.Need-array-read-if1 Inv-loop μ-loop
+array-read-if1 c = here c .1
 
 late-response-requires : tie.Need-late-response-requires Inv-loop μ-loop
 late-response-requires c κs = let turned = c .before in (start turned .pre .0, here turned .0)
@@ -82,18 +78,20 @@ loop-again c =
           (written-in (at .inv .1) (λ j. refl) (fits (c .before) .1) (w .0 .taken) (ap (λ (r : ℕ). at .k ∷ r ∷ []) (sym (w .1 .ensures)))
           (w .4 .ensures)))
           (λ w. rw (w .1, w .2) (written-out (at .inv .1) (w .0 .left)))
-          (c .if2 .came),
+          (c .if1 .came),
     )
 
 same-length : tie.Need-same-length Inv-loop μ-loop
 same-length c = c .before .loop .inv .1 .size
 
-returns-2 : tie.Need-returns-2 Inv-loop μ-loop
-returns-2 c =
+returns : tie.Need-returns Inv-loop μ-loop
+returns c =
     let at = c .before .loop in
-    let s = c .before .before .before .before .before in
-    let whole : at .k ≡ length (tasksIn (s .args .rows .now)) = omega (arith, tasks-length (s .args .rows .now)) in
-    late-all _ _ _ (c .before .before .if1 .left) whole (at .inv .1)
+    let s = c .before .before .before .before in
+    let tasks = tasksIn (s .args .rows .now) in
+    let whole : at .k ≡ length tasks = omega (arith, tasks-length (s .args .rows .now)) in
+    let lines = linesBelow (marked (s .args .t1)) (lateLine tasks (marked (s .args .t1))) in
+    subst (λ (n : ℕ). (at .count ≡ length (lines n)) × HasLines lateWidth (lines n) (at .numbers)) whole (at .inv .1 .count, at .inv .1 .has)
 
 pub late-lines-spec : {M : Type 1} → statement M
 late-lines-spec =
@@ -101,9 +99,8 @@ late-lines-spec =
     (tie.spec
     Inv-loop
     μ-loop
-    returns
     loop-holds
-    array-read-if2
+    array-read-if1
     late-response-requires
     mul-put-row
     (λ c. search needs)
@@ -113,4 +110,4 @@ late-lines-spec =
     loop-less
     loop-again
     same-length
-    returns-2)
+    returns)

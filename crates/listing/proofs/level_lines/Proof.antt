@@ -1,17 +1,20 @@
 -- `listing::level_lines` meets its contract: the lines of the levels below k stand in the front. Assumes nothing.
-use mathlib.Core.Path.{_≡_, refl, sym, subst, _∙_}
+use mathlib.Core.Path.{_≡_, refl}
+use mathlib.Core.Bool.{true}
 use Prim.Native.Nat.{_+_, _-_, _*_, _≤_}
 use native.Mathlib.Omega.{arith}
 use borrow.Author.Needs.{needs}
 use lib.ListN.{length}
-use Rattle.listing.specs.Numbers.{width, HasLines, levelLines}
-use Rattle.listing.specs.NumbersLaws.{has-none, has-in, lines-length-all}
+use Rattle.taskset.specs.Refusals.{maxRules}
+use Rattle.listing.specs.Listing.{levelLine}
+use Rattle.listing.specs.Numbers.{width}
+use Rattle.listing.specs.NumbersLaws.{Written, written-none, written-room, written-in}
 use Rattle.listing.proofs.level_lines.Statement.{statement}
 use Rattle.listing.proofs.level_lines.Tie as tie
 
 abbrev Inv-loop : tie.InvT-loop
 Inv-loop n numbers₀ order responses k₀ numbers k =
-    (k ≤ n) × (length numbers ≡ length numbers₀) × HasLines width (levelLines order responses k) numbers
+    (k ≤ n) × Written (λ j. true) (levelLine order responses) width (length numbers₀) k k numbers
 
 abbrev μ-loop : tie.MeasureT-loop
 μ-loop n numbers₀ order responses k₀ numbers k = n - k
@@ -26,10 +29,12 @@ turn c = let put = c .before .before in put .before .before .before
 
 -- there is room for the next line
 room : (c : tie.In-loop Inv-loop μ-loop) → let at = c .before .loop in width * at .k + width ≤ length (at .numbers)
-room c = let at = c .before .loop in omega (arith, at .inv .1, start c .pre .0, start c .pre .1)
+room c =
+    let at = c .before .loop in
+    written-room (at .inv .1) maxRules (omega (arith, start c .pre .0)) (start c .pre .1) .1
 
 loop-holds : tie.Need-loop-holds Inv-loop μ-loop
-loop-holds c = (omega arith, refl, has-none _ _ width _)
+loop-holds c = (omega arith, written-none refl)
 
 mul-task : tie.Need-mul-task Inv-loop μ-loop
 mul-task c = omega (arith, start c .pre .0)
@@ -57,26 +62,18 @@ loop-less c = omega arith
 
 loop-again : tie.Need-loop-again Inv-loop μ-loop
 loop-again c =
-    let put = c .before .before in
     let at = turn c .before .loop in
-    let s = start (turn c) in
-    let lines = levelLines (s .args .t1) (s .args .t2) in
-    let count = sym (lines-length-all _ (at .k)) in (
-      omega arith,
-      put .put-row .kept .0 ∙ at .inv .1,
-      subst (HasLines width (lines (at .k + 1))) (sym (put .put-row .ensures))
-          (has-in _ _ width (λ k. refl) (at .numbers) (at .k) (at .k) count (room (turn c)) refl (at .inv .2) .1),
-    )
+    (omega arith, written-in (at .inv .1) (λ j. refl) (room (turn c)) refl refl (c .before .before .put-row .ensures))
 
 same-length : tie.Need-same-length Inv-loop μ-loop
-same-length c = c .before .loop .inv .1
+same-length c = c .before .loop .inv .1 .size
 
 returns : tie.Need-returns Inv-loop μ-loop
 returns c =
     let at = c .before .loop in
     let s = c .before .before .before in
     let whole : at .k ≡ s .args .n = omega (arith, at .inv .0) in
-    rw (← whole) (at .inv .2)
+    rw (← whole) (at .inv .1 .has)
 
 pub level-lines-spec : {M : Type 1} → statement M
 level-lines-spec =

@@ -10,14 +10,13 @@ use lib.ListN.{length}
 use lib.Seq.{length-take-le}
 use Rattle.taskset.specs.Refusals.{maxTasks, maxRules}
 use Rattle.taskset.specs.Model.{Lists}
-use Rattle.taskset.specs.Words.{taskSize, tasksIn, listsIn}
+use Rattle.taskset.specs.Words.{taskSize, listsIn}
 use Rattle.taskset.specs.WordsLaws.{tasks-length}
-use Rattle.assignment.specs.LateTasks.{unassignable}
 use Rattle.verdict.specs.declared.Answer.the-variants.{Order, Core}
 use Rattle.verdict.specs.declared.Verdict.{Verdict}
-use Rattle.listing.specs.Listing.{linesFor, lateFor}
+use Rattle.listing.specs.Listing.{linesFor, lateRows, lateFor}
 use Rattle.listing.specs.Numbers.{width, lateWidth, HasLines, levelLines}
-use Rattle.listing.specs.NumbersLaws.{lines-length-all, HasLate}
+use Rattle.listing.specs.NumbersLaws.{lines-length-all}
 use Rattle.listing.specs.Showing.{shows-refused, lines-inside, late-inside, shows-lines}
 use Rattle.listing.proofs.show.Statement.{statement}
 use Rattle.listing.proofs.show.Tie as tie
@@ -81,24 +80,22 @@ abbrev counted : tie.After-late-lines → tie.After-rule-lines
 counted c = c .before .before .before
 
 module _ (c : tie.After-late-lines) where
-  abbrev lates : List ℕ
-  lates = c .late-lines .last .1 .1 .1 .0
+  abbrev late : List ℕ
+  late = c .late-lines .last .1 .1 .0
 
-  has-late : let s = begun-core (counted c) in let lines = lateFor (given s) (verdict s) Core in
-      (c .late-lines .result ≡ length lines) × HasLines lateWidth lines lates
+  has-late : let s = begun-core (counted c) in let lines = lateFor (given s) Core in
+      (c .late-lines .result ≡ length lines) × HasLines lateWidth lines late
   has-late =
-      let made = counted c in
-      let s = begun-core made in
-      let tasks = tasksIn (now (s .args .rows)) in
-      subst (λ (k : ℕ). HasLate k tasks (unassignable (given s)) (c .late-lines .result) lates) (made .rule-lines .ensures .0)
-      (subst (λ (f : ℕ → Bool). HasLate (made .rule-lines .result) tasks f (c .late-lines .result) lates) (s .pre .1) (c .late-lines .ensures))
+      let s = begun-core (counted c) in
+      subst (λ (f : ℕ → Bool). let lines = lateRows (given s .tasks) f in (c .late-lines .result ≡ length lines) × HasLines lateWidth lines late)
+      (s .pre .1) (c .late-lines .ensures)
 
-  late-in : (c .late-lines .result ≤ maxTasks) × (lateWidth * c .late-lines .result ≤ length lates)
+  late-in : (c .late-lines .result ≤ maxTasks) × (lateWidth * c .late-lines .result ≤ length late)
   late-in =
       let made = counted c in
       let s = begun-core made in
-      late-inside (given s) (verdict s) (s .pre .0) Core (rules made) _ (made .rule-lines .ensures .0) (made .rule-lines .ensures .1) lates _
-      (has-late .0) (has-late .1) (omega (arith, c .late-lines .kept .1 .1 .1 .0))
+      late-inside (given s) (verdict s) (s .pre .0) Core (rules made) _ (made .rule-lines .ensures .0) (made .rule-lines .ensures .1) late _
+      (has-late .0) (has-late .1) (omega (arith, c .late-lines .kept .1 .1 .0))
 
 -- where their numbers are lent to be written
 abbrev levels-lent : tie.After-write-arg2 → tie.After-level-lines
@@ -152,7 +149,7 @@ write-requires-2 c κs =
       omega arith,
       (
         omega (arith, length-take-le (width * made .rule-lines .result) (rules made) (inside .1), inside .0),
-        omega (arith, length-take-le (lateWidth * found .late-lines .result) (lates found) (under .1), under .0),
+        omega (arith, length-take-le (lateWidth * found .late-lines .result) (late found) (under .1), under .0),
       ),
     )
 
@@ -179,7 +176,7 @@ returns-3 c =
     let made = counted found in
     let told = cored made in
     let s = start (told .before .before) in
-    shows-lines (given s) (verdict s) (s .pre .0) Core (rules made) _ (made .rule-lines .ensures .0) (made .rule-lines .ensures .1) (lates found) _
+    shows-lines (given s) (verdict s) (s .pre .0) Core (rules made) _ (made .rule-lines .ensures .0) (made .rule-lines .ensures .1) (late found) _
     (has-late found .0) (has-late found .1) (told .enum-told2 .given .1) refl (now (s .args .out)) _ _ (put .write2 .ensures)
 
 pub show-spec : {M : Type 1} → statement M

@@ -8,7 +8,7 @@ use denote.Ref.{now}
 use lib.ListN.{length, length-append}
 use Rattle.sets.specs.Onto.{Front, withTail, front-in, tail-room, tail-back}
 use Rattle.lines.specs.Line.{line, linesOf, chunks}
-use Rattle.listing.specs.Listing.{late, listingWith}
+use Rattle.listing.specs.Listing.{lateHead, listingWith}
 use Rattle.listing.specs.Numbers.{width, lateWidth}
 use Rattle.listing.specs.Showing.{listing-parts, shows-short, shows-whole}
 use Rattle.listing.proofs.write.Statement.{statement}
@@ -25,11 +25,11 @@ module _ (s : tie.Start) where
   abbrev rest : List ℕ
   rest = linesOf [] (chunks width body)
 
-  abbrev lates : List ℕ
-  lates = linesOf late (chunks lateWidth (now (s .args .late)))
+  abbrev last : List ℕ
+  last = linesOf lateHead (chunks lateWidth (now (s .args .late)))
 
   abbrev all : List ℕ
-  all = top ++ rest ++ lates
+  all = top ++ rest ++ last
 
   abbrev was : List ℕ
   was = now (s .args .out)
@@ -37,8 +37,8 @@ module _ (s : tie.Start) where
   whole : all ≡ listingWith (now (s .args .head)) (chunks width body) (chunks lateWidth (now (s .args .late)))
   whole = listing-parts (now (s .args .head)) body (now (s .args .late))
 
-  parts : length all ≡ length top + length rest + length lates
-  parts = omega (arith, length-append (top ++ rest) lates, length-append top rest)
+  parts : length all ≡ length top + length rest + length last
+  parts = omega (arith, length-append (top ++ rest) last, length-append top rest)
 
 -- the places: the start, the sizes, the head line written, and the others
 abbrev begun : tie.After-lines-size2 → tie.Start
@@ -66,7 +66,7 @@ sized c =
       parts s,
       c .before .before .line-size .ensures .0 (now (s .args .head)) refl,
       c .before .lines-size .ensures .0 [] refl,
-      c .lines-size2 .ensures .0 late refl,
+      c .lines-size2 .ensures .0 lateHead refl,
     )
 
 -- what is written after each call
@@ -137,7 +137,7 @@ put-lines-requires-2 c κs =
     let known = c .before .before in
     let put = known .before .before in
     let fit = fitting (head-put put) in
-    (omega arith, tail-room (lines-in put) (lates (begun (fit .before))) (omega (arith, sized (fit .before), fit .if1 .left)))
+    (omega arith, tail-room (lines-in put) (last (begun (fit .before))) (omega (arith, sized (fit .before), fit .if1 .left)))
 
 returns-2 : tie.Need-returns-2
 returns-2 c =

@@ -52,7 +52,7 @@ every c = c .first .ensures ∙ ap first (sym (rules-length (start (c .before) .
 
 -- the search that a test of its free levels is about
 abbrev searched : tie.After-struct-known → tie.After-trial
-searched c = c .before .before .before .before
+searched c = c .before .before .before
 
 refused-requires : tie.Need-refused-requires
 refused-requires c κs = search needs
@@ -71,9 +71,9 @@ trial-requires c κs = start (c .before) .pre
 
 returns-2 : tie.Need-returns-2
 returns-2 c =
-    let found = searched (c .before) in
+    let found = searched (c .before .before) in
     let s = start (found .before .before) in
-    let full : found .trial .result .free ≡ 0 = omega (arith, c .if2 .taken) in
+    let full : found .trial .result .free ≡ 0 = omega (arith, c .before .if2 .taken) in
     correct s _ _
     (gives-order (given s) (s .pre) _ _ (found .trial .ensures .0) (every (found .before)) full
     ∙ deciding-on (given s) (some (found .before .before)))

@@ -193,7 +193,7 @@ static void hostile(struct text *t, unsigned n, unsigned m)
     circle(t, 6, 33, m);
 }
 
-/* The same six, and tasks that are late at once, whose responses lie far beyond their deadlines. */
+/* The same six, and tasks that are late at once; how late takes over a thousand rounds each to see. */
 static void hostile_late(struct text *t, unsigned n, unsigned m)
 {
     (void)m;

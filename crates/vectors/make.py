@@ -303,7 +303,7 @@ def main(program, stage, seed, count, room):
     enumerating = importlib.util.module_from_spec(spec)
     spec.loader.exec_module(enumerating)
     with open(room + "/stdin", "rb") as stdin:
-        texts = [text for text in stdin.read().split(b"\f") if len(text) <= 1000]
+        texts = [text for text in stdin.read().split(b"\f")[:int(count)] if len(text) <= 1000]
     drawn = len(texts)
     answers = [enumerating.answer(text, stage) for text in texts]
     for text, want in made():

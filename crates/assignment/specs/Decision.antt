@@ -15,15 +15,16 @@ use lib.Seq.{getD-drop}
 use borrow.Author.Tests.{eq-eqb}
 use Rattle.sets.specs.Choice.{option, true→T, not→refuted, refuted→not, decided, lt-or-le, and-intro, and-left, and-right}
 use Rattle.sets.specs.Bounded.{Subset, without, without-still, without-other, all, all-at, all-of}
-use Rattle.sets.specs.Bounded.{greatest, IsGreatest, Greatest, found, nothing, greatest-is, count, count-some, count-pos}
-use Rattle.sets.specs.Rank.{rank, Distinct, getD-rank, distinct-cons}
+use Rattle.sets.specs.Bounded.{greatest, IsGreatest, Greatest, found, nothing, greatest-is, count, count-some}
+use Rattle.sets.specs.Rank.{rank, getD-rank}
 use Rattle.taskset.specs.declared.Rule.{Rule}
 use Rattle.taskset.specs.Model.{ruleAt}
 use Rattle.assignment.specs.Orders.{IsOrder, Valid, noRule}
 use Rattle.assignment.specs.Canonical.{leftAt, MayTake, EachMayTake}
 use Rattle.assignment.specs.Audsley.{Problem, withoutRules, passes, Passes, unassigned, blocks, ready, mayTake}
 use Rattle.assignment.specs.Audsley.{fill, assign, feasible, Filled, empty, level, Stuck}
-use Rattle.assignment.specs.Levels.{unassigned-of, unassigned-is, assigned, levels-count, may-other}
+use Rattle.assignment.specs.LateTasks.{EachMay}
+use Rattle.assignment.specs.Levels.{unassigned-of, unassigned-is, each-only, each-count, each-order, may-other}
 use Rattle.assignment.specs.Levels.{left-unassigned, valid-each, each-valid}
 
 -- what the argument asks of a problem: the higher task of a rule is one of its tasks, and fewer tasks above can't break the test
@@ -71,7 +72,7 @@ module _ (p : Problem) (active : ℕ → Bool) where
         (m .meets)
 
   -- each level was given to a task that might take it
-  pub filled-at : (low : List ℕ) → Filled p active low → (k : ℕ) → k < length low
+  filled-at : (low : List ℕ) → Filled p active low → (k : ℕ) → k < length low
       → T (mayTake p active (unassigned (p .tasks) (drop (suc k) low)) (getD low k 0))
   filled-at all empty k h = absurd (not-suc-le-zero h)
   filled-at all (level i low l t f) zero h = t
@@ -94,37 +95,25 @@ module _ (p : Problem) (active : ℕ → Bool) where
       out at (omega arith) (omega (arith, m, length-drop (suc k) low)) (subst (λ (q : ℕ). T (left q)) (sym same) (still .0)))))
       (test-may (unassigned (p .tasks) rest) i (filled-at low f k h) .meets)
 
+  -- so these are levels that tasks might take
+  pub filled-each-may : (low : List ℕ) → Filled p active low → EachMay (p .tasks) (p .rules) (Passes p) active low
+  filled-each-may low f k h = test-may (unassigned (p .tasks) (drop (suc k) low)) (getD low k 0) (filled-at low f k h)
+
   pub filled-only : (low : List ℕ) → Filled p active low → (k : ℕ) → k < length low → getD low k 0 < p .tasks
-  filled-only all empty k h = absurd (not-suc-le-zero h)
-  filled-only all (level i low l t f) zero h = l
-  filled-only all (level i low l t f) (suc k) h = filled-only low f k (le-of-suc-le-suc h)
+  filled-only low f = each-only (p .tasks) (p .rules) (Passes p) active low (filled-each-may low f)
 
-  filled-once : (low : List ℕ) → Filled p active low → Distinct low
-  filled-once all empty = λ i j l h. absurd (not-suc-le-zero h)
-  filled-once all (level i low l t f) =
-      distinct-cons i low (unassigned-is (p .tasks) low i (test-may (unassigned (p .tasks) low) i t .isLeft) .1) (filled-once low f)
-
-  -- the tasks without a level and those with one make up all
   pub filled-count : (low : List ℕ) → Filled p active low → count (p .tasks) (unassigned (p .tasks) low) + length low ≡ p .tasks
-  filled-count low f = levels-count (p .tasks) low (filled-only low f) (filled-once low f)
+  filled-count low f = each-count (p .tasks) (p .rules) (Passes p) active low (filled-each-may low f)
 
   -- ---- sound
 
   module _ (order : List ℕ) (f : Filled p active order) (long : length order ≡ p .tasks) where
     pub filled-order : IsOrder (p .tasks) order
-    filled-order =
-        record {
-          only = filled-only order f;
-          every = λ i h.
-              assigned (p .tasks) order i h
-              (λ t. omega (arith, filled-count order f, count-pos (p .tasks) (unassigned (p .tasks) order) i h t));
-          once = filled-once order f;
-        }
+    filled-order = each-order (p .tasks) (p .rules) (Passes p) active order (filled-each-may order f) long
 
     pub filled-each : EachMayTake (p .rules) (Passes p) active order
     filled-each k h =
-        rw (left-unassigned filled-order k h)
-        (test-may (unassigned (p .tasks) (drop (suc k) order)) (getD order k 0) (filled-at order f k h))
+        rw (left-unassigned filled-order k h) (filled-each-may order f k h)
 
     pub filled-valid : Lawful p → Valid (p .tasks) (p .rules) (Passes p) active order
     filled-valid lawful = each-valid filled-order (lawful .indices) filled-each

@@ -9,10 +9,9 @@ use Prim.Native.Nat.{ℕ, suc, _<_, suc-le-suc}
 use native.Mathlib.Nat.{not-suc-le-zero, eq-zero-or-pos}
 use native.Mathlib.Omega.{arith}
 use lib.Dec.{T, eqb, eqb→eq, eqb-refl}
-use lib.ListN.{length, getD, drop, replicate}
+use lib.ListN.{length, getD, replicate}
 use Rattle.sets.specs.Choice.{same-test, refuted→false}
-use Rattle.sets.specs.Bounded.{Subset, without, without-still, without-other, count, count-some, count-pos}
-use Rattle.sets.specs.Rank.{Distinct, distinct-cons}
+use Rattle.sets.specs.Bounded.{Subset, without, without-still, without-other, count, count-some}
 use Rattle.sets.specs.Marks.{marked, marked-none}
 use Rattle.taskset.specs.declared.Rule.{Rule}
 use Rattle.taskset.specs.Model.{Lists, taskAt, Sound}
@@ -23,57 +22,30 @@ use Rattle.response.specs.Equation.{demand}
 use Rattle.response.specs.Timing.{SaysTiming, timingOf, upToDeadline, reported}
 use Rattle.response.specs.TimingLaws.{timing-says}
 use Rattle.assignment.specs.declared.Search.{Search}
-use Rattle.assignment.specs.Orders.{IsOrder, noRule, MeetsDeadline, SomeOrder}
+use Rattle.assignment.specs.Orders.{noRule, MeetsDeadline, SomeOrder}
 use Rattle.assignment.specs.Canonical.{MayTake, Canonical}
-use Rattle.assignment.specs.LateTasks.{CanonicalSearch, AllMiss, SearchEnds, LateResponse, LateTasks, unassignable, lateResponse}
+use Rattle.assignment.specs.LateTasks.{EachMay, CanonicalSearch, AllMiss, SearchEnds, LateResponse, LateTasks, unassignable, lateResponse}
 use Rattle.assignment.specs.Audsley.{Problem, Passes, isWithin, unassigned, assign, feasible, Filled, empty, level, Stuck, problem}
-use Rattle.assignment.specs.Levels.{unassigned-of, unassigned-is, assigned, unassigned-cons, levels-count, left-unassigned, may-other}
-use Rattle.assignment.specs.Decision.{Lawful, test-may, may-test, filled-at, filled-count, assign-ends, assign-filled}
+use Rattle.assignment.specs.Levels.{unassigned-of, unassigned-is, unassigned-cons, none-left, each-order, left-unassigned, may-other}
+use Rattle.assignment.specs.Decision.{Lawful, test-may, may-test, filled-each-may, filled-count, assign-ends, assign-filled}
 use Rattle.assignment.specs.CanonicalLaws.{assign-greatest}
 use Rattle.assignment.specs.Preemptive.{meets-exactly, lawful, feasible-order}
 use Rattle.assignment.specs.Ready.{level-stops}
 use Rattle.assignment.specs.Search.{Ended}
 use Rattle.assignment.specs.Filling.{searched-fewer}
 
--- ---- who took the levels, for any meaning of a deadline met
+-- ---- where every task has a level the search of (a) has found the order of (a), for any meaning of a deadline met
 
 module _ (n : ℕ) (rules : List Rule) (Meets : ℕ → (ℕ → Bool) → Type 0) (active : ℕ → Bool) where
-  -- each of the tasks of `low` might take its level
-  abbrev EachMay : List ℕ → Type 0
-  EachMay low = (k : ℕ) → k < length low → MayTake rules Meets active (unassigned n (drop (suc k) low)) (getD low k 0)
-
-  -- so they are some of the n tasks, each once
-  each-only : (low : List ℕ) → EachMay low → (k : ℕ) → k < length low → getD low k 0 < n
-  each-only low each k h = unassigned-is n (drop (suc k) low) (getD low k 0) (each k h .isLeft) .0
-
-  each-once : (low : List ℕ) → EachMay low → Distinct low
-  each-once [] each = λ i j l h. absurd (not-suc-le-zero h)
-  each-once (i ∷ low) each =
-      distinct-cons i low (unassigned-is n low i (each 0 (omega arith) .isLeft) .1) (each-once low (λ k h. each (suc k) (suc-le-suc h)))
-
-  -- with every level filled nobody is left
-  none-left : (low : List ℕ) → EachMay low → length low ≡ n → (i : ℕ) → T (unassigned n low i) → ⊥
-  none-left low each whole i t =
-      let all = levels-count n low (each-only low each) (each-once low each) in
-      omega (arith, count-pos n (unassigned n low) i (unassigned-is n low i t .0) t)
-
-  -- and then the search of (a) has found the order of (a)
   pub canonical-search : (low : List ℕ) → length low ≡ n → CanonicalSearch n rules Meets active low ↔ Canonical n rules Meets active low
   canonical-search low whole = (found, back)
     where
       found : CanonicalSearch n rules Meets active low → Canonical n rules Meets active low
       found s =
-          let each = s .ended .each in
-          let is : IsOrder n low =
-          record {
-            only = each-only low each;
-            every = λ i h. assigned n low i h (none-left low each whole i);
-            once = each-once low each;
-          }
-          in
+          let is = each-order n rules Meets active low (s .ended .each) whole in
           record {
             isOrder = is;
-            each = λ k h. rw (left-unassigned is k h) (each k h);
+            each = λ k h. rw (left-unassigned is k h) (s .ended .each k h);
             greatest = λ k h i m. s .greatest k h i (rw (left-unassigned is k h) at m);
           }
 
@@ -96,22 +68,16 @@ module _ (p : Problem) (active : ℕ → Bool) where
   abbrev n : ℕ
   n = p .tasks
 
-  abbrev EachPasses : List ℕ → Type 0
-  EachPasses = EachMay n (p .rules) (Passes p) active
-
-  each-filled : (low : List ℕ) → EachPasses low → Filled p active low
+  each-filled : (low : List ℕ) → EachMay n (p .rules) (Passes p) active low → Filled p active low
   each-filled [] each = empty
   each-filled (i ∷ low) each =
       let may = each 0 (omega arith) in
       level i low (unassigned-is n low i (may .isLeft) .0) (may-test p active (unassigned n low) i may)
       (each-filled low (λ k h. each (suc k) (suc-le-suc h)))
 
-  filled-each-may : (low : List ℕ) → Filled p active low → EachPasses low
-  filled-each-may low f k h = test-may p active (unassigned n (drop (suc k) low)) (getD low k 0) (filled-at p active low f k h)
-
   full-stuck : (low : List ℕ) → Filled p active low → length low ≡ n → Stuck p active (unassigned n low)
   full-stuck low f whole i h t =
-      none-left n (p .rules) (Passes p) active low (filled-each-may low f) whole i (test-may p active (unassigned n low) i t .isLeft)
+      none-left n (p .rules) (Passes p) active low (filled-each-may p active low f) whole i (test-may p active (unassigned n low) i t .isLeft)
 
   -- so where the assignment ends nobody may take the next level
   assign-stuck : Stuck p active (unassigned n (assign p active))
@@ -226,8 +192,8 @@ module _ (l : Lists) (sound : Sound l) where
   fails = stuck-fail p (lawful l sound) rest (assign-stuck p noRule)
 
   -- the response that is reported of a task left
-  response-is : (i : ℕ) → T (rest i) → LateResponse (l .tasks) i (without rest i) (lateResponse (l .tasks) rest i)
-  response-is i t =
+  late-response-is : (i : ℕ) → T (rest i) → LateResponse (l .tasks) i (without rest i) (lateResponse (l .tasks) rest i)
+  late-response-is i t =
       let inside = unassigned-is m low i t .0 in
       let at = taskAt (l .tasks) i in
       let above = without rest i in
@@ -269,7 +235,7 @@ module _ (l : Lists) (sound : Sound l) where
             fail-stay p (lawful l sound) set (λ i h t passes. miss i h t (meets-exactly (l .tasks) i (without set i) .0 passes)) low
             (assign-filled p noRule);
         anyone = anyone-left;
-        responses = response-is;
+        responses = late-response-is;
       }
 
   -- the tasks that a search leaves in its array, where every level is filled or no rule is active

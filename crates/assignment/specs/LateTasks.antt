@@ -20,10 +20,13 @@ use Rattle.assignment.specs.Audsley.{unassigned, assign, problem}
 -- ---- by the words, for any meaning of a deadline met
 
 module _ (n : ℕ) (rules : List Rule) (Meets : ℕ → (ℕ → Bool) → Type 0) (active : ℕ → Bool) where
-  -- a search that has ended: the tasks of `low`, highest first, took levels from the lowest upward, each a level that it might take,
-  -- and of the others none may take the next
+  -- the tasks of `low`, highest first, took levels from the lowest upward, each a level that it might take
+  abbrev pub EachMay : List ℕ → Type 0
+  EachMay low = (k : ℕ) → k < length low → MayTake rules Meets active (unassigned n (drop (suc k) low)) (getD low k 0)
+
+  -- a search that has ended: of the others none may take the next
   pub record EndedSearch (low : List ℕ) : Type 0 where
-    pub each : (k : ℕ) → k < length low → MayTake rules Meets active (unassigned n (drop (suc k) low)) (getD low k 0)
+    pub each : EachMay low
     pub nobody : (i : ℕ) → MayTake rules Meets active (unassigned n low) i → ⊥
 
   -- the search of (a): of the tasks that may take a level, the one with the greatest index (place) takes it
@@ -60,7 +63,8 @@ pub record LateTasks (l : Lists) (left : ℕ → Bool) (response : ℕ → ℕ) 
   pub search : (low : List ℕ) × SearchEnds l low × (unassigned (length (l .tasks)) low ≡ left)
   -- whichever of the tasks that may takes each level
   pub every : (low : List ℕ) → AnySearchEnds l low → unassigned (length (l .tasks)) low ≡ left
-  -- so it is a fact about the tasks: each misses its deadline with the others above it, and no such set has a task besides
+  -- so it is a fact about the tasks: each misses its deadline with the others above it, and every set of which that holds lies
+  -- within this one
   pub misses : AllLate l left
   pub largest : (set : ℕ → Bool) → AllLate l set → Subset (length (l .tasks)) set left
   -- some task is left exactly when no order meets every deadline even with no rules

@@ -12,13 +12,14 @@ use lib.ListN.{length, getD, drop}
 use lib.Seq.{drop-cons}
 use borrow.Author.Tests.{leb-false}
 use Rattle.sets.specs.Choice.{pick, refuted→false, decided, lt-or-le, same-test, and-intro, and-left, and-right}
-use Rattle.sets.specs.Bounded.{Subset, without, without-still, without-other, count, count-less, count-but, count-whole, count-some}
-use Rattle.sets.specs.Rank.{rank, Member, Distinct, getD-rank, rank-getD, drop-rank, rank-drop, distinct-head, distinct-tail}
+use Rattle.sets.specs.Bounded.{Subset, without, without-still, without-other, count, count-less, count-but, count-whole, count-some, count-pos}
+use Rattle.sets.specs.Rank.{rank, Member, Distinct, getD-rank, rank-getD, drop-rank, rank-drop, distinct-head, distinct-tail, distinct-cons}
 use Rattle.taskset.specs.declared.Rule.{Rule}
 use Rattle.taskset.specs.Model.{ruleAt}
 use Rattle.assignment.specs.Orders.{IsOrder, hp, Valid}
 use Rattle.assignment.specs.Canonical.{leftAt, MayTake, EachMayTake}
 use Rattle.assignment.specs.Audsley.{unassigned}
+use Rattle.assignment.specs.LateTasks.{EachMay}
 
 -- ---- who has a level
 
@@ -69,6 +70,31 @@ module _ (n : ℕ) where
         levels-count low (λ k h. only (suc k) (suc-le-suc h)) (distinct-tail i low once),
         ap (count n) (unassigned-cons low i),
       )
+
+-- ---- levels that tasks might take
+
+module _ (n : ℕ) (rules : List Rule) (Meets : ℕ → (ℕ → Bool) → Type 0) (active : ℕ → Bool) where
+  -- they are some of the n tasks, each once
+  pub each-only : (low : List ℕ) → EachMay n rules Meets active low → (k : ℕ) → k < length low → getD low k 0 < n
+  each-only low each k h = unassigned-is n (drop (suc k) low) (getD low k 0) (each k h .isLeft) .0
+
+  each-once : (low : List ℕ) → EachMay n rules Meets active low → Distinct low
+  each-once [] each = λ i j l h. absurd (not-suc-le-zero h)
+  each-once (i ∷ low) each =
+      distinct-cons i low (unassigned-is n low i (each 0 (omega arith) .isLeft) .1) (each-once low (λ k h. each (suc k) (suc-le-suc h)))
+
+  -- so the tasks without a level and those with one make up all
+  pub each-count : (low : List ℕ) → EachMay n rules Meets active low → count n (unassigned n low) + length low ≡ n
+  each-count low each = levels-count n low (each-only low each) (each-once low each)
+
+  -- and with every level filled nobody is left, and it is an order
+  pub none-left : (low : List ℕ) → EachMay n rules Meets active low → length low ≡ n → (i : ℕ) → T (unassigned n low i) → ⊥
+  none-left low each whole i t =
+      omega (arith, each-count low each, count-pos n (unassigned n low) i (unassigned-is n low i t .0) t)
+
+  pub each-order : (low : List ℕ) → EachMay n rules Meets active low → length low ≡ n → IsOrder n low
+  each-order low each whole =
+      record { only = each-only low each; every = λ i h. assigned n low i h (none-left low each whole i); once = each-once low each }
 
 -- ---- who may take a level
 

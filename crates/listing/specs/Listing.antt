@@ -48,14 +48,15 @@ linesFor l v (Refused k) = []
 linesFor l v Order = linesBelow (λ k. true) (levelLine (v .order) (v .responses)) (length (l .tasks))
 linesFor l v Core = linesBelow (marked (v .core)) (ruleLine (l .rules)) (length (l .rules))
 
--- every task left without a level; under a core with rules there is none (`LateLines`)
-abbrev pub lateRows : List Task → (ℕ → Bool) → List (List ℕ)
-lateRows tasks left = linesBelow left (lateLine tasks left) (length tasks)
+-- every task that is left
+abbrev pub lateLines : List Task → (ℕ → Bool) → List (List ℕ)
+lateLines tasks left = linesBelow left (lateLine tasks left) (length tasks)
 
+-- under a core; one with rules leaves nobody (`LateLines`)
 abbrev pub lateFor : Lists → Answer → List (List ℕ)
 lateFor l (Refused k) = []
 lateFor l Order = []
-lateFor l Core = lateRows (l .tasks) (unassignable l)
+lateFor l Core = lateLines (l .tasks) (unassignable l)
 
 -- ---- bytes
 

@@ -17,7 +17,7 @@ use Rattle.lines.specs.LineWriting.{AllWide, wide-snoc, chunks-back}
 use Rattle.listing.specs.Listing.{linesBelow}
 use Rattle.listing.specs.Numbers.{HasLines}
 
--- ---- a row of numbers written one after the other
+-- ---- a line's numbers written one after the other
 
 sets-more : (xs : List ℕ) (at : ℕ) (vs : List ℕ) (v : ℕ) → sets xs at (vs ++ v ∷ []) ≡ set (sets xs at vs) (at + length vs) v
 sets-more xs at [] v = ap (λ (i : ℕ). set xs i v) (sym (add-zero at))
@@ -25,14 +25,14 @@ sets-more xs at (u ∷ vs) v =
     sets-more (set xs at u) (suc at) vs v
     ∙ (let same : suc at + length vs ≡ at + suc (length vs) = omega arith in ap (λ (i : ℕ). set (sets (set xs at u) (suc at) vs) i v) same)
 
-pub row-more : (xs : List ℕ) (at : ℕ) (row : List ℕ) (k : ℕ) → k < length row → (now : List ℕ) → now ≡ sets xs at (take k row)
-    → set now (at + k) (getD row k 0) ≡ sets xs at (take (k + 1) row)
-row-more xs at row k h now e =
-    let long : length (take k row) ≡ k = length-take-le k row (omega arith) in
-    ap (λ (ys : List ℕ). set ys (at + k) (getD row k 0)) e
-    ∙ ap (λ (i : ℕ). set (sets xs at (take k row)) (at + i) (getD row k 0)) (sym long)
-    ∙ sym (sets-more xs at (take k row) (getD row k 0))
-    ∙ ap (sets xs at) (sym (take-suc row k 0 h) ∙ ap (λ (i : ℕ). take i row) (sym (add-one k)))
+pub nums-more : (xs : List ℕ) (at : ℕ) (nums : List ℕ) (k : ℕ) → k < length nums → (now : List ℕ) → now ≡ sets xs at (take k nums)
+    → set now (at + k) (getD nums k 0) ≡ sets xs at (take (k + 1) nums)
+nums-more xs at nums k h now e =
+    let long : length (take k nums) ≡ k = length-take-le k nums (omega arith) in
+    ap (λ (ys : List ℕ). set ys (at + k) (getD nums k 0)) e
+    ∙ ap (λ (i : ℕ). set (sets xs at (take k nums)) (at + i) (getD nums k 0)) (sym long)
+    ∙ sym (sets-more xs at (take k nums) (getD nums k 0))
+    ∙ ap (sets xs at) (sym (take-suc nums k 0 h) ∙ ap (λ (i : ℕ). take i nums) (sym (add-one k)))
 
 -- ---- lines in the front of an array
 
@@ -146,9 +146,9 @@ module _ {isIn : ℕ → Bool} {nums : ℕ → List ℕ} {wide long : ℕ} where
         (less, omega (arith, fits, w .size, mul-suc wide n, mul-le-mul-left wide less))
 
     -- the next index is in, and its line is written; or it is out
-    pub written-in : ((j : ℕ) → length (nums j) ≡ wide) → wide * n + wide ≤ length numbers → isIn k ≡ true → {row xs : List ℕ}
-        → nums k ≡ row → xs ≡ sets numbers (wide * n) row → Written isIn nums wide long (k + 1) (n + 1) xs
-    written-in same room e {row} {xs} f g =
+    pub written-in : ((j : ℕ) → length (nums j) ≡ wide) → wide * n + wide ≤ length numbers → isIn k ≡ true → {line xs : List ℕ}
+        → nums k ≡ line → xs ≡ sets numbers (wide * n) line → Written isIn nums wide long (k + 1) (n + 1) xs
+    written-in same room e {line} {xs} f g =
         let more = has-in isIn nums wide same numbers n k (w .count) room e (w .has) in
         let is : xs ≡ sets numbers (wide * n) (nums k) = g ∙ ap (sets numbers (wide * n)) (sym f) in
         record {

@@ -50,11 +50,11 @@ Digits (k ∷ ks) [] = ⊥
 Digits (k ∷ ks) (n ∷ ns) = (1 ≤ k) × (n < 10 ^ k) × Digits ks ns
 
 -- their bytes, with the one after each
-abbrev room : List ℕ → ℕ
-room [] = 0
-room (k ∷ ks) = k + 1 + room ks
+abbrev mostBytes : List ℕ → ℕ
+mostBytes [] = 0
+mostBytes (k ∷ ks) = k + 1 + mostBytes ks
 
-numbers-short : (ks ns : List ℕ) → Digits ks ns → length (flatMap tabbed ns) ≤ room ks
+numbers-short : (ks ns : List ℕ) → Digits ks ns → length (flatMap tabbed ns) ≤ mostBytes ks
 unfolding flatMap
 numbers-short [] [] d = omega arith
 numbers-short [] (n ∷ ns) d = absurd d
@@ -68,7 +68,7 @@ numbers-short (k ∷ ks) (n ∷ ns) d =
       numbers-short ks ns (d .2),
     )
 
-line-short : (head ks ns : List ℕ) → 1 ≤ length ns → Digits ks ns → length (line head ns) ≤ length head + room ks
+line-short : (head ks ns : List ℕ) → 1 ≤ length ns → Digits ks ns → length (line head ns) ≤ length head + mostBytes ks
 line-short head ks ns some d = omega (arith, line-long head ns some, numbers-short ks ns d)
 
 -- lines of at most b bytes

@@ -26,7 +26,7 @@ use Rattle.listing.specs.Listing.{Outcome, shown, outcomeFor, outcome, f
 use Rattle.listing.specs.Numbers.{width, maxNumbers, lateWidth, maxLate, HasLines}
 use Rattle.listing.specs.NumbersLaws.{lines-few, lines-wide, lines-back}
 
--- the head line of as many lines as the numbers have, and then theirs
+-- the head line of as many lines as the numbers have, theirs, and the late ones
 pub listing-parts : (head body lates : List ℕ) → let lines = chunks width body in
     line head (length body / width ∷ []) ++ linesOf [] lines ++ linesOf lateHead (chunks lateWidth lates)
     ≡ listingWith head lines (chunks lateWidth lates)

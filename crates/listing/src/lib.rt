@@ -12,7 +12,7 @@ ghost use Rattle.taskset.specs.Adding.{lists};
 ghost use Rattle.taskset.specs.Words.{tasksIn, rulesIn, listsIn};
 ghost use Rattle.assignment.specs.LateTasks.{unassignable};
 ghost use Rattle.verdict.specs.Verdict.{solving};
-ghost use Rattle.listing.specs.Listing.{ruleLine, linesBelow, lateRows, listingWith, outcome, shown, fitted, shownAs, listed, bufferAfter};
+ghost use Rattle.listing.specs.Listing.{ruleLine, linesBelow, lateLines, listingWith, outcome, shown, fitted, shownAs, listed, bufferAfter};
 ghost use Rattle.listing.specs.Gives.{Gives};
 ghost use Rattle.listing.specs.Numbers.{width, maxNumbers, lateWidth, maxLate, HasLines, levelLines};
 use assignment::late_response;
@@ -56,14 +56,14 @@ pub struct Listed {
 }
 
 // Writes a line's numbers from a position on.
-fn put_row(numbers: &mut [u64], at: usize, row: &[u64])
-    requires { ⌜ at + length (now row) ≤ length (now numbers) ⌝ }
-    ensures { λ _. ⌜ now (numbers .exit) ≡ sets (now (numbers .entry)) at (now (row .entry)) ⌝ }
+fn put_numbers(numbers: &mut [u64], at: usize, line: &[u64])
+    requires { ⌜ at + length (now line) ≤ length (now numbers) ⌝ }
+    ensures { λ _. ⌜ now (numbers .exit) ≡ sets (now (numbers .entry)) at (now (line .entry)) ⌝ }
 {
-    let n = row.len();
+    let n = line.len();
     let mut k = 0;
     while k < n {
-        numbers[at + k] = row[k];
+        numbers[at + k] = line[k];
         k += 1;
     }
 }
@@ -83,8 +83,8 @@ fn level_lines(
     while k < n {
         let task = order[k].0 as u64;
         let response = responses[k];
-        let row = [k as u64, task, response];
-        put_row(numbers, WIDTH * k, &row);
+        let line = [k as u64, task, response];
+        put_numbers(numbers, WIDTH * k, &line);
         k += 1;
     }
 }
@@ -103,8 +103,8 @@ fn rule_lines(core: [bool; MAX_RULES], rules: &[u64], numbers: &mut [u64]) -> us
     while k < n {
         if core[k] {
             let rule = rule_in(rules, k);
-            let row = [k as u64, rule.higher.0 as u64, rule.lower.0 as u64];
-            put_row(numbers, WIDTH * count, &row);
+            let line = [k as u64, rule.higher.0 as u64, rule.lower.0 as u64];
+            put_numbers(numbers, WIDTH * count, &line);
             count += 1;
         }
         k += 1;
@@ -116,16 +116,16 @@ fn rule_lines(core: [bool; MAX_RULES], rules: &[u64], numbers: &mut [u64]) -> us
 fn late_lines(left: [bool; MAX_TASKS], rows: &[u64], numbers: &mut [u64]) -> usize
     requires { ⌜ SoundTasks (tasksIn (now rows)) ⌝ }
     requires { ⌜ maxLate ≤ length (now numbers) ⌝ }
-    ensures { λ r. ⌜ r ≡ length (lateRows (tasksIn (now (rows .entry))) (marked left)) ⌝ }
-    ensures lines { λ r. ⌜ HasLines lateWidth (lateRows (tasksIn (now (rows .entry))) (marked left)) (now (numbers .exit)) ⌝ }
+    ensures { λ r. ⌜ r ≡ length (lateLines (tasksIn (now (rows .entry))) (marked left)) ⌝ }
+    ensures lines { λ r. ⌜ HasLines lateWidth (lateLines (tasksIn (now (rows .entry))) (marked left)) (now (numbers .exit)) ⌝ }
 {
     let n = rows.len() / TASK_WORDS;
     let mut count = 0;
     let mut k = 0;
     while k < n {
         if left[k] {
-            let row = [k as u64, late_response(rows, left, TaskIndex(k))];
-            put_row(numbers, LATE_WIDTH * count, &row);
+            let line = [k as u64, late_response(rows, left, TaskIndex(k))];
+            put_numbers(numbers, LATE_WIDTH * count, &line);
             count += 1;
         }
         k += 1;

@@ -1,5 +1,5 @@
 -- Document 02, (b): the response search gives any response up to the period, and says if it meets the deadline. First what its
--- answers mean, as a relation over document 01's; then the same as a function that contracts cite. `TimingLaws` proves that they
+-- answers mean, over document 01's relation `Says`; then the same as a function that contracts cite. `TimingLaws` proves that they
 -- agree. Assumes nothing.
 use mathlib.Core.Bool.{Bool}
 use mathlib.Core.List.{List}

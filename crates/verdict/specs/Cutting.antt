@@ -1,4 +1,4 @@
--- Cutting a core down, over any test: what a rule tried leaves, searched for or not. Assumes nothing.
+-- Cutting a core down, over any test: what a rule tried leaves, searched for or not; and the core as an array. Assumes nothing.
 use mathlib.Core.Path.{_≡_, refl, sym, ap, subst, _∙_, fun-ext}
 use mathlib.Core.Bool.{Bool, true, false}
 use mathlib.Core.Logic.{inr, ⊎-elim}

@@ -48,11 +48,11 @@ mul-response c = omega (arith, start c .pre .0)
 array-read-response : tie.Need-array-read-response Inv-loop μ-loop
 array-read-response c = omega (arith, start c .pre .0)
 
-mul-put-row : tie.Need-mul-put-row Inv-loop μ-loop
-mul-put-row c = omega (arith, start (c .before) .pre .0)
+mul-put-numbers : tie.Need-mul-put-numbers Inv-loop μ-loop
+mul-put-numbers c = omega (arith, start (c .before) .pre .0)
 
-put-row-requires : tie.Need-put-row-requires Inv-loop μ-loop
-put-row-requires c κs = room (c .before .before)
+put-numbers-requires : tie.Need-put-numbers-requires Inv-loop μ-loop
+put-numbers-requires c κs = room (c .before .before)
 
 add-k : tie.Need-add-k Inv-loop μ-loop
 add-k c = omega (arith, start (turn c) .pre .0)
@@ -63,7 +63,7 @@ loop-less c = omega arith
 loop-again : tie.Need-loop-again Inv-loop μ-loop
 loop-again c =
     let at = turn c .before .loop in
-    (omega arith, written-in (at .inv .1) (λ j. refl) (room (turn c)) refl refl (c .before .before .put-row .ensures))
+    (omega arith, written-in (at .inv .1) (λ j. refl) (room (turn c)) refl refl (c .before .before .put-numbers .ensures))
 
 same-length : tie.Need-same-length Inv-loop μ-loop
 same-length c = c .before .loop .inv .1 .size
@@ -86,9 +86,9 @@ level-lines-spec =
     element-copy-out-task
     mul-response
     array-read-response
-    mul-put-row
+    mul-put-numbers
     (λ c. search needs)
-    put-row-requires
+    put-numbers-requires
     add-k
     loop-less
     loop-again

@@ -14,7 +14,7 @@ use Rattle.taskset.specs.Words.{taskSize, listsIn}
 use Rattle.taskset.specs.WordsLaws.{tasks-length}
 use Rattle.verdict.specs.declared.Answer.the-variants.{Order, Core}
 use Rattle.verdict.specs.declared.Verdict.{Verdict}
-use Rattle.listing.specs.Listing.{linesFor, lateRows, lateFor}
+use Rattle.listing.specs.Listing.{linesFor, lateLines, lateFor}
 use Rattle.listing.specs.Numbers.{width, lateWidth, HasLines, levelLines}
 use Rattle.listing.specs.NumbersLaws.{lines-length-all}
 use Rattle.listing.specs.Showing.{shows-refused, lines-inside, late-inside, shows-lines}
@@ -75,7 +75,7 @@ module _ (c : tie.After-rule-lines) where
       lines-inside (given begun-core) (verdict begun-core) (begun-core .pre .0) Core rules (c .rule-lines .result)
       (c .rule-lines .ensures .0) (c .rule-lines .ensures .1) (omega (arith, c .rule-lines .kept .1 .1 .0))
 
--- with one for each late task where it is empty
+-- and one for each task that is left
 abbrev counted : tie.After-late-lines → tie.After-rule-lines
 counted c = c .before .before .before
 
@@ -87,7 +87,7 @@ module _ (c : tie.After-late-lines) where
       (c .late-lines .result ≡ length lines) × HasLines lateWidth lines late
   has-late =
       let s = begun-core (counted c) in
-      subst (λ (f : ℕ → Bool). let lines = lateRows (given s .tasks) f in (c .late-lines .result ≡ length lines) × HasLines lateWidth lines late)
+      subst (λ (f : ℕ → Bool). let lines = lateLines (given s .tasks) f in (c .late-lines .result ≡ length lines) × HasLines lateWidth lines late)
       (s .pre .1) (c .late-lines .ensures)
 
   late-in : (c .late-lines .result ≤ maxTasks) × (lateWidth * c .late-lines .result ≤ length late)

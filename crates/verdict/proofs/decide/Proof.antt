@@ -26,7 +26,7 @@ use Rattle.verdict.proofs.decide.Tie as tie
 abbrev given : tie.Start → Lists
 given s = listsIn (s .args .rows .now) (s .args .rules .now)
 
--- what is decided is correct, and one order
+-- what is decided is correct, and one order; and who is left
 correct : (s : tie.Start) (v : Verdict) (left : ℕ → Bool) → v ≡ deciding (given s) → left ≡ unassignable (given s)
     → (v ≡ deciding (given s)) × ((left ≡ unassignable (given s)) × ((1 ≤ length (given s .tasks) → Correct (given s) v) × OneOrder (given s) v))
 correct s v left e f = (

@@ -1,20 +1,20 @@
--- `listing::put_row` meets its contract: the first k numbers of the row are written. Assumes nothing.
+-- `listing::put_numbers` meets its contract: the first k numbers of the line are written. Assumes nothing.
 use mathlib.Core.Path.{_≡_, refl, ap, _∙_}
 use Prim.Native.Nat.{_-_, _≤_}
 use native.Mathlib.Omega.{arith}
 use borrow.Author.Needs.{needs}
 use lib.ListN.{length, take, length-set}
 use lib.Seq.{sets, take-all}
-use Rattle.listing.specs.NumbersLaws.{row-more}
-use Rattle.listing.proofs.put_row.Statement.{statement}
-use Rattle.listing.proofs.put_row.Tie as tie
+use Rattle.listing.specs.NumbersLaws.{nums-more}
+use Rattle.listing.proofs.put_numbers.Statement.{statement}
+use Rattle.listing.proofs.put_numbers.Tie as tie
 
 abbrev Inv-loop : tie.InvT-loop
-Inv-loop numbers₀ at row n k₀ numbers k =
-    (k ≤ n) × (length numbers ≡ length numbers₀) × (numbers ≡ sets numbers₀ at (take k row))
+Inv-loop numbers₀ at line n k₀ numbers k =
+    (k ≤ n) × (length numbers ≡ length numbers₀) × (numbers ≡ sets numbers₀ at (take k line))
 
 abbrev μ-loop : tie.MeasureT-loop
-μ-loop numbers₀ at row n k₀ numbers k = n - k
+μ-loop numbers₀ at line n k₀ numbers k = n - k
 
 loop-holds : tie.Need-loop-holds Inv-loop μ-loop
 loop-holds c = (omega arith, refl, refl)
@@ -43,7 +43,7 @@ loop-less c = omega arith
 loop-again : tie.Need-loop-again Inv-loop μ-loop
 loop-again c =
     let at = c .before .before .loop in
-    (omega arith, simp length-set (at .inv .1), row-more _ _ _ (at .k) (omega arith) _ (at .inv .2))
+    (omega arith, simp length-set (at .inv .1), nums-more _ _ _ (at .k) (omega arith) _ (at .inv .2))
 
 same-length : tie.Need-same-length Inv-loop μ-loop
 same-length c = c .before .loop .inv .1
@@ -51,11 +51,11 @@ same-length c = c .before .loop .inv .1
 returns : tie.Need-returns Inv-loop μ-loop
 returns c =
     let at = c .before .loop in
-    let row = c .before .before .args .row .now in
-    at .inv .2 ∙ ap (sets _ _) (take-all (at .k) row (omega (arith, at .inv .0)))
+    let line = c .before .before .args .line .now in
+    at .inv .2 ∙ ap (sets _ _) (take-all (at .k) line (omega (arith, at .inv .0)))
 
-pub put-row-spec : {M : Type 1} → statement M
-put-row-spec =
+pub put-numbers-spec : {M : Type 1} → statement M
+put-numbers-spec =
     tie.close
     (tie.spec
     Inv-loop

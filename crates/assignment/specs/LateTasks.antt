@@ -40,7 +40,7 @@ AllMiss n Meets set = (i : ℕ) → i < n → T (set i) → Meets i (without set
 
 -- ---- by the response-time equation
 
--- the search of (a), run without rules, ended so; and so did any search, whichever of the tasks that may took each level
+-- the search of (a), run without rules, ends with these levels; and so may a search in which any of the tasks that may takes each
 abbrev pub SearchEnds : Lists → List ℕ → Type 0
 SearchEnds l low = CanonicalSearch (length (l .tasks)) (l .rules) (MeetsDeadline (l .tasks)) noRule low
 

@@ -16,7 +16,7 @@
 
 uint64_t plain_solve(const uint8_t *text, size_t text_len, uint8_t *out, size_t out_len);
 
-enum { FULL = 64, RULES = 128, SECOND = 1000000, BATCHES = 25 };
+enum { FULL = 64, RULES = 128, RESOURCES = 8, SECOND = 1000000, BATCHES = 25 };
 
 /* A batch lasts at least this long, and a solver gets about this long for a set, in seconds. */
 static const double BATCH = 0.002, BUDGET = 0.6;
@@ -37,9 +37,20 @@ typedef uint64_t solver(const uint8_t *text, size_t text_len, uint8_t *out, size
 
 /* ---- lines of a text ---- */
 
-static void task(struct text *t, unsigned execution, unsigned period, unsigned deadline, unsigned jitter, unsigned blocking)
+/* A task with a section of this length on each of two resources. */
+static void sharing_task(struct text *t, unsigned execution, unsigned period, unsigned deadline, unsigned jitter,
+                         unsigned section, unsigned one, unsigned other)
 {
-    t->len += (size_t)sprintf((char *)t->bytes + t->len, "t\t%u\t%u\t%u\t%u\t%u\n", execution, period, deadline, jitter, blocking);
+    t->len += (size_t)sprintf((char *)t->bytes + t->len, "t\t%u\t%u\t%u\t%u", execution, period, deadline, jitter);
+    for (unsigned k = 0; k < RESOURCES; k++)
+        t->len += (size_t)sprintf((char *)t->bytes + t->len, "\t%u", k == one || k == other ? section : 0);
+    t->bytes[t->len++] = '\n';
+}
+
+/* A task without sections. */
+static void task(struct text *t, unsigned execution, unsigned period, unsigned deadline, unsigned jitter)
+{
+    sharing_task(t, execution, period, deadline, jitter, 0, 0, 0);
 }
 
 static void rule(struct text *t, unsigned higher, unsigned lower)
@@ -71,25 +82,26 @@ static unsigned period_of(unsigned i, unsigned n)
     return period;
 }
 
-/* Task i of n with a load of 0.66 together: every third has jitter, every fourth is blocked. */
-static void usual_task(struct text *t, unsigned i, unsigned n)
+/* Task i of n with a load of 0.66 together: every third has jitter. Its sections have one part in `parts` of its C; 0 for none. */
+static void usual_task(struct text *t, unsigned i, unsigned n, unsigned parts)
 {
-    unsigned period = period_of(i, n);
-    task(t, period * (7 + i % 7) / (15 * n), period, period, i % 3 == 0 ? period / 40 : 0, i % 4 == 1 ? 150 : 0);
+    unsigned period = period_of(i, n), execution = period * (7 + i % 7) / (15 * n);
+    sharing_task(t, execution, period, period, i % 3 == 0 ? period / 40 : 0, parts ? execution / parts : 0, i % RESOURCES,
+                 i / RESOURCES % RESOURCES);
 }
 
 /* n tasks that meet their deadlines in any order. */
 static void loose_tasks(struct text *t, unsigned n)
 {
     for (unsigned i = 0; i < n; i++)
-        task(t, 5000 + 100 * i, SECOND, SECOND, 0, 0);
+        task(t, 5000 + 100 * i, SECOND, SECOND, 0);
 }
 
 /* n tasks that need a microsecond in a second. */
 static void small_tasks(struct text *t, unsigned n)
 {
     for (unsigned i = 0; i < n; i++)
-        task(t, 1, SECOND, SECOND, 0, 0);
+        task(t, 1, SECOND, SECOND, 0);
 }
 
 /* ---- families ---- */
@@ -98,7 +110,7 @@ static void small_tasks(struct text *t, unsigned n)
 static void rising(struct text *t, unsigned n, unsigned m)
 {
     for (unsigned i = 0; i < n; i++)
-        usual_task(t, i, n);
+        usual_task(t, i, n, 0);
     chain(t, n, m, 0);
 }
 
@@ -106,7 +118,7 @@ static void rising(struct text *t, unsigned n, unsigned m)
 static void falling(struct text *t, unsigned n, unsigned m)
 {
     for (unsigned i = n; i-- > 0;)
-        usual_task(t, i, n);
+        usual_task(t, i, n, 0);
     chain(t, n, m, 1);
 }
 
@@ -139,21 +151,44 @@ static void ring(struct text *t, unsigned n, unsigned m)
     circle(t, 0, n, m);
 }
 
-/* Rising, with a task in the middle that is blocked for its whole period: late at every level. */
+/* Rising, with sections on all eight resources. */
+static void sharing(struct text *t, unsigned n, unsigned m)
+{
+    for (unsigned i = 0; i < n; i++)
+        usual_task(t, i, n, 8);
+    chain(t, n, m, 0);
+}
+
+/* The same with one more rule that no order can keep. */
+static void sharing_clash(struct text *t, unsigned n, unsigned m)
+{
+    sharing(t, n, m - 1);
+    rule(t, n - 1, 0);
+}
+
+/* Loose tasks with sections on all eight resources, and rules in a circle. */
+static void sharing_ring(struct text *t, unsigned n, unsigned m)
+{
+    for (unsigned i = 0; i < n; i++)
+        sharing_task(t, 5000 + 100 * i, SECOND, SECOND, 0, 100 * i + 1, i % RESOURCES, i / RESOURCES % RESOURCES);
+    circle(t, 0, n, m);
+}
+
+/* Rising, with a task in the middle that runs longer than its deadline: late at every level. */
 static void late_task(struct text *t, unsigned n, unsigned m)
 {
     for (unsigned i = 0; i < n; i++)
         if (i == n / 2)
-            task(t, 1, period_of(i, n), period_of(i, n), 0, period_of(i, n));
+            task(t, 2, period_of(i, n), 1, 0);
         else
-            usual_task(t, i, n);
+            usual_task(t, i, n, 0);
     chain(t, n, m, 0);
 }
 
 /* A task that takes the whole processor, before small ones. */
 static void whole_processor(struct text *t, unsigned n, unsigned m)
 {
-    task(t, 1000, 1000, 1000, 0, 0);
+    task(t, 1000, 1000, 1000, 0);
     small_tasks(t, n - 1);
     chain(t, n, m, 0);
 }
@@ -163,7 +198,7 @@ static void load_near_one(struct text *t, unsigned n, unsigned m)
 {
     static const unsigned periods[] = { 2, 3, 7, 43, 1807 };
     for (unsigned i = 0; i < 5; i++)
-        task(t, 1, periods[i], periods[i], 0, 0);
+        task(t, 1, periods[i], periods[i], 0);
     small_tasks(t, n - 5);
     chain(t, n, m, 0);
 }
@@ -172,24 +207,39 @@ static void load_near_one(struct text *t, unsigned n, unsigned m)
  * Six tasks, found by a search, that leave 1 part in 3,000 of the processor in such a pattern that a response takes a
  * thousand rounds, with leaps or without.
  */
+static const unsigned nearly[6][2] = { { 83, 334 }, { 251, 1169 }, { 1185, 2339 }, { 68, 2343 }, { 2, 4678 }, { 4, 10659 } };
+
 static void nearly_full(struct text *t)
 {
-    static const unsigned rows[6][2] = { { 83, 334 }, { 251, 1169 }, { 1185, 2339 }, { 68, 2343 }, { 2, 4678 }, { 4, 10659 } };
     for (unsigned i = 0; i < 6; i++)
-        task(t, rows[i][0], rows[i][1], rows[i][1], 0, 0);
+        task(t, nearly[i][0], nearly[i][1], nearly[i][1], 0);
+}
+
+/* The response of a task under those six, for which it and the others above it need this much together. */
+static unsigned under_six(unsigned needed)
+{
+    for (unsigned w = needed;;) {
+        unsigned sum = needed;
+        for (unsigned i = 0; i < 6; i++)
+            sum += (w + nearly[i][1] - 1) / nearly[i][1] * nearly[i][0];
+        if (sum == w)
+            return w;
+        w = sum;
+    }
 }
 
 /*
- * Hostile. Of the small tasks below those six, 33 stand in circles of rules. The other 25 are blocked so long that each
- * is late, which takes a thousand rounds to see, until its own level is reached; the last one typed may only stand
+ * Hostile. Below those six, small tasks that stand in circles of rules, if there are rules; and small tasks of which each is
+ * late, which takes up to a thousand rounds to see, until its own level is reached. The last one typed may only stand
  * highest, so each level tries them all.
  */
 static void hostile(struct text *t, unsigned n, unsigned m)
 {
+    unsigned circled = m > 0 ? 33 : 0;
     nearly_full(t);
-    small_tasks(t, 33);
-    for (unsigned i = 39; i < n; i++)
-        task(t, 1, SECOND, SECOND, 0, i - 4);
+    small_tasks(t, circled);
+    for (unsigned i = 6 + circled; i < n; i++)
+        task(t, 1, SECOND, under_six(n - i), 0);
     circle(t, 6, 33, m);
 }
 
@@ -199,7 +249,7 @@ static void hostile_late(struct text *t, unsigned n, unsigned m)
     (void)m;
     nearly_full(t);
     for (unsigned i = 6; i < n; i++)
-        task(t, 1, SECOND, 1, 0, i - 4);
+        task(t, 1, SECOND, 1, 0);
 }
 
 static const struct family families[] = {
@@ -208,6 +258,10 @@ static const struct family families[] = {
     { "one rule of 128 clashes with the deadlines", rising_clash, FULL, RULES },
     { "one rule of 128 closes a circle", closed_chain, FULL, RULES },
     { "a ring of 64 rules", ring, FULL, FULL },
+    { "eight resources, an order, no rules", sharing, FULL, 0 },
+    { "eight resources, an order, 128 rules", sharing, FULL, RULES },
+    { "eight resources, one rule of 128 clashes", sharing_clash, FULL, RULES },
+    { "eight resources, a ring of 64 rules", sharing_ring, FULL, FULL },
     { "a task late at every level, 128 rules", late_task, FULL, RULES },
     { "a task takes the whole processor, no rules", whole_processor, FULL, 0 },
     { "a task takes the whole processor, 128 rules", whole_processor, FULL, RULES },

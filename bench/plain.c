@@ -1,22 +1,24 @@
 /*
  * plain.c: the call of orders.h written the plain way, to compare with. The
- * response is found by repeating w := demand(w), the order by one search from
- * the lowest level upward, the core by one such search for each rule, and the
- * late tasks by one more.
+ * response is found by repeating w := demand(w), the blocking by a pass over the
+ * tasks and resources at each level, the order by one search from the lowest
+ * level upward, the core by one such search for each rule, and the late tasks
+ * by one more.
  */
 #include <stdbool.h>
 #include <string.h>
 #include "orders.h"
 
-enum { MAX_TASKS = 64, MAX_RULES = 128, MAX_PERIOD = 1000000, MAX_DIGITS = 7 };
+enum { MAX_TASKS = 64, MAX_RULES = 128, RESOURCES = 8, FIELDS = 4 + RESOURCES, MAX_PERIOD = 1000000, MAX_DIGITS = 7 };
 
-struct task { uint64_t execution, period, deadline, jitter, blocking; };
+struct task { uint64_t execution, period, deadline, jitter, sections[RESOURCES]; };
 struct rule { uint64_t higher, lower; };
 
 struct task_set {
     struct task tasks[MAX_TASKS];
     struct rule rules[MAX_RULES];
     size_t ntasks, nrules;
+    bool shares; /* some task has a section */
 };
 
 /* The task at each level, highest first, and its response there. */
@@ -77,10 +79,13 @@ static uint64_t add_task(struct task_set *s, struct task t)
         return 3;
     if (t.jitter >= t.period)
         return 4;
-    if (t.blocking > t.period)
-        return 5;
+    for (size_t k = 0; k < RESOURCES; k++)
+        if (t.sections[k] > t.execution)
+            return 5;
     if (s->ntasks == MAX_TASKS)
         return 10;
+    for (size_t k = 0; k < RESOURCES; k++)
+        s->shares |= t.sections[k] > 0;
     s->tasks[s->ntasks++] = t;
     return 0;
 }
@@ -101,9 +106,14 @@ static uint64_t add_rule(struct task_set *s, struct rule r)
 /* Reads a line and adds what it says; gives the refusal's number, or 0. */
 static uint64_t read_line(struct task_set *s, struct reader *r)
 {
-    uint64_t n[5];
-    if (take(r, 't'))
-        return take_numbers(r, n, 5) ? add_task(s, (struct task){ n[0], n[1], n[2], n[3], n[4] }) : 7;
+    uint64_t n[FIELDS];
+    if (take(r, 't')) {
+        if (!take_numbers(r, n, FIELDS))
+            return 7;
+        struct task t = { n[0], n[1], n[2], n[3], { 0 } };
+        memcpy(t.sections, n + 4, sizeof t.sections);
+        return add_task(s, t);
+    }
     if (take(r, 'r'))
         return take_numbers(r, n, 2) ? add_rule(s, (struct rule){ n[0], n[1] }) : 7;
     return 7;
@@ -115,6 +125,7 @@ static uint64_t read_text(struct task_set *s, const uint8_t *text, size_t len)
     struct reader r = { text, len, 0 };
     uint64_t refusal = len > ORDERS_TEXT_MAX ? 8 : 0;
     s->ntasks = s->nrules = 0;
+    s->shares = false;
     while (refusal == 0 && r.at < len)
         refusal = read_line(s, &r);
     return refusal;
@@ -122,10 +133,29 @@ static uint64_t read_text(struct task_set *s, const uint8_t *text, size_t len)
 
 /* ---- solving ---- */
 
-/* What task i needs within a window of w, with the other tasks that are left above it. */
-static uint64_t demand(const struct task_set *s, const bool *left, size_t i, uint64_t w)
+/* The blocking of any task left, with the others that are left above it: the longest section of a task with a level, on a
+ * resource that some task left uses. */
+static uint64_t level_blocking(const struct task_set *s, const bool *left)
 {
-    uint64_t sum = s->tasks[i].blocking + s->tasks[i].execution;
+    uint64_t longest = 0;
+    for (size_t k = 0; k < RESOURCES && s->shares; k++) {
+        bool used = false;
+        uint64_t held = 0;
+        for (size_t j = 0; j < s->ntasks; j++)
+            if (left[j])
+                used |= s->tasks[j].sections[k] > 0;
+            else if (held < s->tasks[j].sections[k])
+                held = s->tasks[j].sections[k];
+        if (used && longest < held)
+            longest = held;
+    }
+    return longest;
+}
+
+/* What task i needs within a window of w, with this blocking and the other tasks that are left above it. */
+static uint64_t demand(const struct task_set *s, const bool *left, uint64_t blocking, size_t i, uint64_t w)
+{
+    uint64_t sum = blocking + s->tasks[i].execution;
     for (size_t j = 0; j < s->ntasks; j++) {
         const struct task *t = &s->tasks[j];
         if (left[j] && j != i)
@@ -135,12 +165,12 @@ static uint64_t demand(const struct task_set *s, const bool *left, size_t i, uin
 }
 
 /* The response of task i with the other tasks that are left above it; 0 when none lies within the limit. */
-static uint64_t response(const struct task_set *s, const bool *left, size_t i, uint64_t limit)
+static uint64_t response(const struct task_set *s, const bool *left, uint64_t blocking, size_t i, uint64_t limit)
 {
     const struct task *own = &s->tasks[i];
-    uint64_t w = own->blocking + own->execution;
+    uint64_t w = blocking + own->execution;
     while (own->jitter + w <= limit) {
-        uint64_t needed = demand(s, left, i, w);
+        uint64_t needed = demand(s, left, blocking, i, w);
         if (needed == w)
             return own->jitter + w;
         w = needed;
@@ -162,9 +192,10 @@ static bool fill_level(const struct task_set *s, const bool *active, bool *left,
 {
     bool held[MAX_TASKS];
     mark_held(s, active, left, held);
+    uint64_t blocking = level_blocking(s, left);
     for (size_t i = s->ntasks; i-- > 0;) {
         order->task[level] = i;
-        order->response[level] = left[i] && !held[i] ? response(s, left, i, s->tasks[i].deadline) : 0;
+        order->response[level] = left[i] && !held[i] ? response(s, left, blocking, i, s->tasks[i].deadline) : 0;
         if (order->response[level] > 0) {
             left[i] = false;
             return true;
@@ -242,11 +273,12 @@ static void list_late(const struct task_set *s, const bool *no_rule, struct list
     struct order order;
     bool left[MAX_TASKS];
     find_order(s, no_rule, left, &order);
+    uint64_t blocking = level_blocking(s, left);
     for (size_t i = 0; i < s->ntasks; i++)
         if (left[i]) {
             put_word(l, "late\t");
             put_number(l, i, '\t');
-            put_number(l, response(s, left, i, s->tasks[i].period), '\n');
+            put_number(l, response(s, left, blocking, i, s->tasks[i].period), '\n');
         }
 }
 

@@ -3,26 +3,37 @@
 
     make.py PATH/enumerate.py STAGE SEED COUNT DIR
 
-STAGE is the letter of the last request of document 02 that holds, here b. DIR/stdin gets those of COUNT drawn
+STAGE is the letter of the last request of document 02 that holds, here c. DIR/stdin gets those of COUNT drawn
 texts that have at most 1,000 bytes, and then the texts below, joined by form feeds (byte 12); DIR/stdout gets
 what `orders` must write for each, one after the other. Every answer is the enumerating program's own: of all
 valid orders it gives the greatest, read from the lowest level up. The texts below also carry the answer that
-the papers give them, and the two must agree. The stored files have SEED 1 and COUNT 2200.
+the papers give them, and the two must agree. The stored files have SEED 1 and COUNT 1400.
 """
 import importlib.util
 import os
 import subprocess
 import sys
 
-FIELDS = ("1", "4", "4", "0", "0")  # a good task line: C, T, D, J, B
+RESOURCES = 8
+FIELDS = ("1", "4", "4", "0", *("0" for _ in range(RESOURCES)))  # a good task line: C, T, D, J, and the sections
+
+
+def line_of(word, *fields):
+    return ("\t".join([word, *map(str, fields)]) + "\n").encode("latin-1")
 
 
 def t(*fields):
-    return ("\t".join(["t", *map(str, fields)]) + "\n").encode("latin-1")
+    """A task line; the sections that are not given are 0."""
+    return line_of("t", *fields, *(0 for _ in range(len(FIELDS) - len(fields))))
+
+
+def on(resource, section):
+    """The sections of a task that uses one resource."""
+    return [section if k == resource else 0 for k in range(RESOURCES)]
 
 
 def r(*fields):
-    return ("\t".join(["r", *map(str, fields)]) + "\n").encode("latin-1")
+    return line_of("r", *fields)
 
 
 def bad(line, number):
@@ -47,9 +58,9 @@ def late(*tasks):
 
 
 GOOD = t(*FIELDS)
-EASY = t(1, 100, 100, 0, 0)  # any few of these meet their deadlines in every order
-A = t(1, 4, 4, 0, 0) + t(2, 6, 6, 0, 0) + t(3, 12, 12, 0, 0)
-B = t(2, 10, 4, 0, 0) + t(2, 10, 10, 0, 0) + t(2, 10, 10, 0, 0)
+EASY = t(1, 100, 100, 0)  # any few of these meet their deadlines in every order
+A = t(1, 4, 4, 0) + t(2, 6, 6, 0) + t(3, 12, 12, 0)
+B = t(2, 10, 4, 0) + t(2, 10, 10, 0) + t(2, 10, 10, 0)
 A_ORDER = order((0, 1), (1, 3), (2, 10))
 
 
@@ -63,10 +74,10 @@ def cases():
     yield A + r(0, 1) + r(1, 0), core((0, 0, 1), (1, 1, 0))  # K7
     yield B + r(1, 0) + r(2, 0), core((0, 1, 0), (1, 2, 0))  # K8
     yield B + r(1, 0), order((1, 2), (0, 4), (2, 6))  # K9
-    yield t(1, 4, 4, 1, 0) + t(2, 6, 6, 0, 0) + r(0, 1), order((0, 2), (1, 3))  # K10
-    yield t(1, 4, 4, 2, 0) + t(2, 6, 6, 0, 0) + r(0, 1), order((0, 3), (1, 4))  # K11
-    yield t(1, 4, 4, 0, 3), order((0, 4))  # K12
-    yield t(1, 4, 4, 0, 4), late((0, 0))  # K13
+    yield t(1, 4, 4, 1) + t(2, 6, 6, 0) + r(0, 1), order((0, 2), (1, 3))  # K10
+    yield t(1, 4, 4, 2) + t(2, 6, 6, 0) + r(0, 1), order((0, 3), (1, 4))  # K11
+    yield t(1, 4, 4, 0, 1) + t(3, 12, 12, 0, 3), order((0, 4), (1, 4))  # K12
+    yield t(1, 4, 4, 0, 1) + t(4, 12, 12, 0, 4), late((0, 0))  # K13
 
 
 def ends():
@@ -76,7 +87,7 @@ def ends():
         for piece in (b"\n", b"\n\n", b"\n" + GOOD, b"x", b"t", b"r", b"t\t", b"r\t0\t", b"t\t1\t4\t4\t0", b"\t", b"\r", b"\0", b" "):
             yield front + piece, bad(line, 7)
         # good content, and content that its call would refuse by each number
-        for whole in (GOOD, t(1, 0, 1, 0, 0), t(5, 4, 4, 0, 0), t(1, 4, 5, 0, 0), t(1, 4, 4, 4, 0), t(1, 4, 4, 0, 5), r(0, 1), r(0, 0), r(0, 9)):
+        for whole in (GOOD, t(1, 0, 1, 0), t(5, 4, 4, 0), t(1, 4, 5, 0), t(1, 4, 4, 4), t(1, 4, 4, 0, 2), r(0, 1), r(0, 0), r(0, 9)):
             yield front + whole[:-1], bad(line, 7)
 
 
@@ -85,13 +96,13 @@ def numbers():
     wrong = ("", "00", "04", "01", "000", "0000004", "00000004", "+1", "-1", "-0", "+", "-", "1.", "1.0", "1e0", "0x1", "1_0", "a", "1a", " 1", "1 ", "1,0",
              "10000000", "99999999", "4294967297", "18446744073709551617", "1" * 40, "0" * 40)
     for field in wrong:
-        for k in range(5):
+        for k in range(len(FIELDS)):
             yield t(*FIELDS[:k], field, *FIELDS[k + 1:]), bad(1, 7)
         for line in (r(field, 1), r(0, field)):
             yield A + line, bad(4, 7)
             yield line, bad(1, 7)
-        yield A + t(1, field, 4, 0, 0), bad(4, 7)
-    for k, number in enumerate((2, 1, 3, 4, 5)):
+        yield A + t(1, field, 4, 0), bad(4, 7)
+    for k, number in enumerate((2, 1, 3, 4, *(5 for _ in range(RESOURCES)))):
         for front, line in ((b"", 1), (A, 4)):
             yield front + t(*FIELDS[:k], 9999999, *FIELDS[k + 1:]), bad(line, number)
             yield front + t(*FIELDS[:k], 1000001, *FIELDS[k + 1:]), bad(line, number)
@@ -119,7 +130,8 @@ def forms():
                 yield front + good[:-1] + more + b"\n", bad(line, 7)
             for word in (b"", b"T", b"R", b"t1", b"tt", b"rr", b"tr", b"x", b"0", b"task", b"order", b"#", b" t", b"t "):
                 yield front + b"\t".join([word, *fields[1:]]) + b"\n", bad(line, 7)
-        yield front + b"r\t1\t4\t4\t0\t0\n", bad(line, 7)
+        yield front + b"r" + GOOD[1:], bad(line, 7)
+        yield front + line_of("t", *FIELDS[:5]), bad(line, 7)
         yield front + b"t\t0\t1\n", bad(line, 7)
         yield front + GOOD[:-1] + rule, bad(line, 7)
         yield front + b"bad\t0\t13\n", bad(line, 7)
@@ -129,8 +141,8 @@ def odd_bytes():
     """Bytes that are none of a line's, in every kind of position."""
     odd = [0, 1, 8, 11, 13, 31, 32, 33, 34, 43, 45, 46, 47, 58, 84, 82, 115, 117, 120, 127, 128, 137, 138, 160, *range(176, 186), 242, 244, 254, 255]
     for byte in (bytes([b]) for b in odd):
-        for text in (byte + b"\t1\t4\t4\t0\t0\n", b"t" + byte + b"1\t4\t4\t0\t0\n", b"t\t" + byte + b"\t4\t4\t0\t0\n", b"t\t1\t4\t4\t0\t" + byte + b"\n",
-                     b"t\t1\t4\t4\t0\t0" + byte + b"\n", b"t\t1\t4\t4\t0\t0" + byte):
+        for text in (byte + GOOD[1:], GOOD[:1] + byte + GOOD[2:], GOOD[:2] + byte + GOOD[3:], GOOD[:-2] + byte + b"\n", GOOD[:-1] + byte + b"\n",
+                     GOOD[:-1] + byte):
             yield text, bad(1, 7)
         for text in (b"r\t0\t1" + byte + b"\n", b"r\t0\t" + byte + b"\n", b"r\t0" + byte + b"1\n", byte + r(0, 1), byte + b"\n", byte):
             yield A + text, bad(4, 7)
@@ -143,24 +155,24 @@ def odd_bytes():
 def ranges():
     """Each range at its ends, and which refusal comes first."""
     for front, line in ((b"", 1), (GOOD, 2), (A + r(1, 0), 5)):
-        for number, rows in ((1, ((1, 0, 1, 0, 0), (1, 1000001, 1, 0, 0), (0, 0, 0, 0, 0), (9, 0, 9, 9, 9))),
-                             (2, ((0, 4, 4, 0, 0), (5, 4, 4, 0, 0), (0, 4, 0, 4, 5), (5, 4, 5, 4, 5))),
-                             (3, ((1, 4, 0, 0, 0), (1, 4, 5, 0, 0), (4, 4, 0, 4, 5))),
-                             (4, ((1, 4, 4, 4, 0), (1, 4, 4, 5, 0), (1, 4, 1, 4, 5))),
-                             (5, ((1, 4, 4, 0, 5), (1, 4, 4, 3, 5), (1, 1, 1, 0, 2)))):
+        for number, rows in ((1, ((1, 0, 1, 0), (1, 1000001, 1, 0), (0, 0, 0, 0), (9, 0, 9, 9, 10))),
+                             (2, ((0, 4, 4, 0), (5, 4, 4, 0), (0, 4, 0, 4, 5), (5, 4, 5, 4, 6))),
+                             (3, ((1, 4, 0, 0), (1, 4, 5, 0), (4, 4, 0, 4, 5))),
+                             (4, ((1, 4, 4, 4), (1, 4, 4, 5), (1, 4, 1, 4, 2))),
+                             (5, ((1, 4, 4, 0, 2), (1, 4, 4, 3, 4), (1, 1, 1, 0, 2), *((3, 4, 4, 0, *on(k, 4)) for k in range(RESOURCES))))):
             for row in rows:
                 yield front + t(*row), bad(line, number)
                 yield front + t(*row) + b"x\n", bad(line, number)
                 yield front + t(*row)[:-1] + b"\t\n", bad(line, 7)
-    yield t(1, 1, 1, 0, 0), order((0, 1))
-    yield t(4, 4, 4, 0, 0), order((0, 4))
-    yield t(1, 65536, 65536, 0, 0), order((0, 1))
-    yield t(65537, 131072, 131072, 0, 0), order((0, 65537))
-    yield t(1, 4, 4, 3, 0), order((0, 4))
-    yield t(1, 1000000, 1000000, 999999, 0), order((0, 1000000))
-    yield t(1, 1000000, 1000000, 0, 999999), order((0, 1000000))
-    yield t(1, 1000000, 1, 0, 1000000), late((0, 0))
-    yield t(1, 1000000, 1, 0, 999999), late((0, 1000000))
+    yield t(1, 1, 1, 0), order((0, 1))
+    yield t(4, 4, 4, 0), order((0, 4))
+    yield t(1, 65536, 65536, 0), order((0, 1))
+    yield t(65537, 131072, 131072, 0), order((0, 65537))
+    yield t(1, 4, 4, 3), order((0, 4))
+    yield t(1, 1000000, 1000000, 999999), order((0, 1000000))
+    yield t(1000000, 1000000, 1000000, 0, *(1000000 for _ in range(RESOURCES))), order((0, 1000000))
+    yield t(2, 1000000, 1, 999999), late((0, 0))
+    yield t(2, 1000000, 1, 999998), late((0, 1000000))
 
 
 def rule_places():
@@ -189,19 +201,20 @@ def rule_places():
 
 def full_sheets():
     """After 64 tasks and after 128 rules. A taken sheet of 64 tasks has too many orders to write out."""
-    longest = t(1000000, 1000000, 1000000, 999999, 1000000)
+    longest = t(1000000, 1000000, 1000000, 999999, *(1000000 for _ in range(RESOURCES)))
+    full = GOOD * 64
+    for more, number in ((GOOD, 10), (GOOD * 2, 10), (GOOD + b"x\n", 10), (b"x\n", 7), (b"\n", 7), (GOOD[:-1], 7), (line_of("t", *FIELDS[:-1]), 7),
+                         (t(1, 0, 1, 0), 1), (t(5, 4, 4, 0), 2), (t(1, 4, 5, 0), 3), (t(1, 4, 4, 4), 4), (t(1, 4, 4, 0, 2), 5), (r(63, 64), 11), (r(64, 63), 11), (r(64, 64), 6)):
+        yield full + more, bad(65, number)
+    yield full + r(63, 0) + r(0, 63) + GOOD, bad(67, 10)
     for task in (GOOD, longest):
-        full = task * 64
-        for more, number in ((GOOD, 10), (GOOD * 2, 10), (GOOD + b"x\n", 10), (b"x\n", 7), (b"\n", 7), (GOOD[:-1], 7), (t(1, 4, 4, 0), 7), (t(1, 0, 1, 0, 0), 1),
-                             (t(5, 4, 4, 0, 0), 2), (t(1, 4, 5, 0, 0), 3), (t(1, 4, 4, 4, 0), 4), (t(1, 4, 4, 0, 5), 5), (r(63, 64), 11), (r(64, 63), 11), (r(64, 64), 6)):
-            yield full + more, bad(65, number)
-        yield full + r(63, 0) + r(0, 63) + GOOD, bad(67, 10)
-        yield full + r(63, 62) * 128 + r(63, 62), bad(193, 12)
-        yield full + r(63, 62) * 128 + GOOD, bad(193, 10)
-        yield full + r(63, 62) * 128 + b"x\n", bad(193, 7)
+        full = task * 64 + r(63, 62) * 128
+        yield full + r(63, 62), bad(193, 12)
+        yield full + GOOD, bad(193, 10)
+        yield full + b"x\n", bad(193, 7)
     rules = EASY * 2 + r(0, 1) * 128
     for more, number in ((r(0, 1), 12), (r(1, 0), 12), (r(0, 1) * 9, 12), (r(0, 1) + b"x\n", 12), (r(0, 0), 6), (r(7, 7), 6), (r(0, 2), 11), (r(2, 0), 11), (r(0, 1)[:-1], 7),
-                         (r(0), 7), (b"\n", 7), (t(1, 0, 1, 0, 0), 1), (EASY[:-1], 7)):
+                         (r(0), 7), (b"\n", 7), (t(1, 0, 1, 0), 1), (EASY[:-1], 7)):
         yield rules + more, bad(131, number)
     yield rules + EASY + r(2, 0), bad(132, 12)
     yield rules, order((0, 1), (1, 2))
@@ -216,7 +229,7 @@ def full_sheets():
 def sizes():
     """Texts around 16,384 bytes: one byte more is 8, whatever they hold."""
     two = EASY * 2
-    fronts = ((b"", 1, 7), (A + r(0, 3), 4, 11), (two + r(0, 1) * 129, 131, 12))
+    fronts = ((b"", 1, 7), (two + r(0, 1) * 129, 131, 12))
     for front, line, number in fronts:
         for size in (16384, 16385):
             answer = bad(line, number) if size == 16384 else bad(0, 8)
@@ -230,21 +243,19 @@ def sizes():
 
 def verdicts():
     """Late rows, equal rules, circles, and responses of every length."""
-    for row, response in (((3, 4, 2, 0, 0), 3), ((1, 4, 2, 2, 0), 3), ((1, 4, 2, 3, 0), 4), ((1, 4, 2, 0, 2), 3), ((1, 4, 1, 0, 4), 0), ((1, 4, 3, 2, 1), 4)):
+    for row, response in (((3, 4, 2, 0), 3), ((1, 4, 2, 2), 3), ((1, 4, 2, 3), 4), ((3, 4, 1, 2), 0), ((2, 4, 3, 2), 4), ((3, 4, 2, 0, 3), 3)):
         yield t(*row), late((0, response))
         yield t(*row) + EASY, late((0, response))
         yield EASY + t(*row) + r(0, 1), late((1, response))
         yield EASY + t(*row) + r(0, 1) + r(1, 0), late((1, response))
-    whole = t(4, 4, 1, 0, 0)  # leaves no time for any other
+    whole = t(4, 4, 1, 0)  # leaves no time for any other
     yield whole, late((0, 4))
     yield whole + EASY, late((0, 0), (1, 0))
     yield EASY + whole + r(0, 1), late((0, 0), (1, 0))
     yield EASY + whole + r(0, 1) + r(1, 0), late((0, 0), (1, 0))
-    yield t(1, 4, 3, 2, 0), order((0, 3))
-    yield t(2, 4, 4, 0, 0) * 2, order((0, 2), (1, 4))
-    yield t(2, 4, 4, 0, 0) + t(2, 4, 3, 0, 0), order((1, 2), (0, 4))
-    yield t(2, 4, 4, 0, 0) + t(2, 4, 4, 0, 1), order((1, 3), (0, 4))
-    yield t(2, 4, 4, 0, 1) * 2, late((0, 0), (1, 0))
+    yield t(1, 4, 3, 2), order((0, 3))
+    yield t(2, 4, 4, 0) * 2, order((0, 2), (1, 4))
+    yield t(2, 4, 4, 0) + t(2, 4, 3, 0), order((1, 2), (0, 4))
     yield A + r(1, 0) * 2, order((1, 2), (0, 3), (2, 10))
     yield A + r(2, 1) * 2, core((1, 2, 1))
     yield A + (r(0, 1) + r(1, 0)) * 2, core((2, 0, 1), (3, 1, 0))
@@ -255,34 +266,57 @@ def verdicts():
         circle = [(k, k, (k + 1) % size) for k in range(size)]
         yield EASY * size + b"".join(r(u, l) for _, u, l in circle), core(*circle)
     tight = [(k, k, 6) for k in range(6)]
-    yield EASY * 6 + t(1, 100, 6, 0, 0) + b"".join(r(u, l) for _, u, l in tight), core(*tight)
+    yield EASY * 6 + t(1, 100, 6, 0) + b"".join(r(u, l) for _, u, l in tight), core(*tight)
     yield EASY * 8, order(*((k, k + 1) for k in range(8)))
     for response in (9, 10, 99, 100, 999, 1000, 9999, 10000, 99999, 100000, 999999):
-        yield t(1, 1000000, 1000000, response - 1, 0), order((0, response))
-        yield t(1, 1000000, response - 1, response - 1, 0), late((0, response))
+        yield t(1, 1000000, 1000000, response - 1), order((0, response))
+        yield t(1, 1000000, response - 1, response - 1), late((0, response))
 
 
 def late_tasks():
     """Late by one, up to the period and past it, beside tasks that have a level, and with rules that play no part."""
-    yield t(2, 10, 10, 8, 0), order((0, 10))
-    yield t(2, 10, 9, 8, 0), late((0, 10))
-    yield t(2, 10, 9, 9, 0), late((0, 0))
-    yield t(3, 10, 2, 0, 7), late((0, 10))
-    yield t(3, 10, 2, 0, 8), late((0, 0))
-    two = t(2, 10, 3, 0, 0) * 2  # one of them must be lower, with response 4
+    yield t(2, 10, 10, 8), order((0, 10))
+    yield t(2, 10, 9, 8), late((0, 10))
+    yield t(2, 10, 9, 9), late((0, 0))
+    yield t(3, 10, 2, 7), late((0, 10))
+    yield t(3, 10, 2, 8), late((0, 0))
+    two = t(2, 10, 3, 0) * 2  # one of them must be lower, with response 4
     yield two, late((0, 4), (1, 4))
     yield two + EASY, late((0, 4), (1, 4))
     yield EASY + two + r(0, 1) + r(0, 2), late((1, 4), (2, 4))
     yield EASY + two + r(1, 0) + r(0, 1), late((1, 4), (2, 4))
-    yield two + t(2, 10, 4, 0, 0), late((0, 6), (1, 6), (2, 6))
-    yield two + t(2, 10, 6, 0, 0), late((0, 4), (1, 4))
-    yield two + t(2, 5, 4, 0, 0), late((0, 8), (1, 8), (2, 0))
-    yield two + t(1, 100, 6, 0, 0) + EASY + r(3, 2), late((0, 4), (1, 4))
+    yield two + t(2, 10, 4, 0), late((0, 6), (1, 6), (2, 6))
+    yield two + t(2, 10, 6, 0), late((0, 4), (1, 4))
+    yield two + t(2, 5, 4, 0), late((0, 8), (1, 8), (2, 0))
+    yield two + t(1, 100, 6, 0) + EASY + r(3, 2), late((0, 4), (1, 4))
     yield EASY * 6 + two, late((6, 4), (7, 4))
 
 
+def sections():
+    """Who blocks whom, and who does not."""
+    for k in range(RESOURCES):
+        user = t(1, 4, 4, 0, *on(k, 1))
+        yield user + t(3, 12, 12, 0, *on(k, 3)), order((0, 4), (1, 4))
+        yield user + t(4, 12, 12, 0, *on(k, 4)), late((0, 0))
+        yield user + t(4, 12, 12, 0, *on(k, 3)), order((0, 4), (1, 6))  # a section shorter than C
+        yield user + t(4, 12, 12, 0, *on((k + 1) % RESOURCES, 4)), order((0, 1), (1, 6))  # another resource
+        yield user + t(1, 6, 6, 0) + t(3, 12, 12, 0, *on(k, 3)), order((0, 4), (1, 6), (2, 6))  # the task between them uses none
+    yield t(1, 4, 1, 0) + t(2, 12, 12, 0, 2) * 2, order((0, 1), (1, 6), (2, 6))  # only tasks below use it
+    yield t(2, 4, 2, 0, 2), order((0, 2))  # its own section
+    yield t(2, 8, 8, 0, 2) + t(1, 8, 3, 0, 1) + r(0, 1), order((0, 3), (1, 3))  # a section of a task above
+    yield t(2, 8, 4, 0, 2) * 2, order((0, 4), (1, 4))  # the lowest has nothing below it
+    yield t(2, 8, 3, 0, 2) * 2, late((0, 4), (1, 4))
+    yield t(1, 8, 4, 0, 1) + t(4, 12, 12, 0, 4), late((0, 5))  # blocked by a task that has a level
+    yield t(1, 8, 4, 0, 1) + t(4, 12, 12, 0, 4) + r(0, 1), late((0, 5))
+    yield t(1, 9, 3, 0, 1, 1) + t(3, 20, 20, 0, 1, 2) + t(9, 90, 90, 0, 0, 0, 9), order((0, 3), (1, 4), (2, 14))  # the longest of several
+    yield t(1, 9, 3, 0, 1, 1) + t(3, 20, 20, 0, 1, 3), late((0, 4))
+    yield t(1, 4, 3, 1, 1) + t(2, 12, 12, 0, 2) + r(1, 0), late((0, 4))  # late in either order, with rules or without
+    yield t(2, 10, 4, 0, 2) + t(3, 10, 10, 0, 3) + EASY + r(1, 0), late((0, 5))  # above it blocks, below it runs
+    yield t(2, 10, 5, 0, 2) + t(3, 10, 10, 0, 3) + EASY + r(1, 0), order((1, 5), (0, 5), (2, 6))
+
+
 def made():
-    for part in (cases, ends, numbers, forms, odd_bytes, ranges, rule_places, full_sheets, sizes, verdicts, late_tasks):
+    for part in (cases, ends, numbers, forms, odd_bytes, ranges, rule_places, full_sheets, sizes, verdicts, late_tasks, sections):
         yield from part()
 
 

@@ -6,6 +6,7 @@ use mathlib.Core.List.{List, []}
 use mathlib.Core.Logic.{inl, inr}
 use Prim.Native.Nat.{ℕ, _-_, _≤_, _<_}
 use native.Mathlib.Omega.{arith}
+use lib.Dec.{T}
 use lib.ListN.{length, replicate, length-set}
 use Rattle.sets.specs.Marks.{first, marked}
 use Rattle.taskset.specs.declared.TaskIndex.{TaskIndex}
@@ -22,6 +23,7 @@ use Rattle.assignment.specs.Search.{Indexed, index, chosen, AnyOf, candi
 use Rattle.assignment.specs.Search.{Searched, Ended, HoldsLevels, Assigns, Helps}
 use Rattle.assignment.specs.Filling.{holds-none, Reached, reached-first, reached-full, reached-stuck, reached-next}
 use Rattle.assignment.specs.Filling.{any-stuck, searched-next}
+use Rattle.assignment.specs.Ready.{ready-left, candidate-within}
 use Rattle.assignment.specs.Hints.{helps-next}
 
 -- a choice among candidates: any of them with hints, the greatest without
@@ -70,18 +72,19 @@ module _ {p : Problem} {active : ℕ → Bool} {h : Hints} where
             assigns = λ off. reached-stuck p active s readies is-ready from (going .reached off) more (sym e ∙ c .greatest off);
           }
 
-      module _ (few : p .tasks ≤ maxTasks) (lawful : Lawful (withoutRules p)) {r : Choice}
-          (c : Chose (p .tasks) (candidates p readies s) (h .given) r) (t : TaskIndex) (q : ℕ) (e : r ≡ Takes t q) where
+      module _ {r : Choice} (c : Chose (p .tasks) (candidates p readies s) (h .given) r) (t : TaskIndex) (q : ℕ) (e : r ≡ Takes t q) where
         taken : AnyOf (p .tasks) (candidates p readies s) (Takes t q)
         taken = subst (AnyOf (p .tasks) (candidates p readies s)) e (c .any)
 
-        -- who takes it is one of the tasks
-        pub taker-within : t .0 < maxTasks
-        taker-within = omega (arith, taken .0)
+        -- who takes it is one of the tasks left
+        pub taker-left : (t .0 < p .tasks) × T (marked (s .left) (t .0))
+        taker-left =
+            let is = candidate-within (p .test) readies (marked (s .left)) (t .0) (taken .1) in
+            (taken .0, ready-left (p .rules) active (marked (s .left)) is-ready (t .0) is)
 
-        pub going-next : Going p active h from (placed s (lowestFree (s .free)) t q)
-        going-next =
-            let here : t .0 < length (s .left) = omega (arith, taker-within, going .long) in
+        pub going-next : p .tasks ≤ maxTasks → Lawful (withoutRules p) → Going p active h from (placed s (lowestFree (s .free)) t q)
+        going-next few lawful =
+            let here : t .0 < length (s .left) = omega (arith, taken .0, few, going .long) in
             record {
               long = simp length-set (going .long);
               searched = searched-next p active s readies is-ready (going .searched) more t q taken here;

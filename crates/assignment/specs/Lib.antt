@@ -8,6 +8,8 @@ pub mod Decision
 pub mod CanonicalLaws
 pub mod Ready
 pub mod Filling
+pub mod OrderBlocking
+pub mod OrderBlockingLaws
 pub mod Preemptive
 pub mod LateLaws
 pub mod Hints

@@ -62,7 +62,7 @@ lawful l s =
         → responseAt (l .tasks) i above ≡ r → T (isWithin r)
         → T (isWithin (responseAt (l .tasks) i less))
     go i less above sub (Within r) e t =
-        let q = fewer-above (l .tasks) i less above sub (taskAt (l .tasks) i .deadline) r e in
+        let q = fewer-above (s .tasks) i less above sub (taskAt (l .tasks) i .deadline) r e in
         subst (λ (a : Response). T (isWithin a)) (sym (q .1)) tt
     go i less above sub Late e t = absurd t
 

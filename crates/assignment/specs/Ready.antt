@@ -1,12 +1,12 @@
 -- Laws of the ready tasks, rule by rule, and of the greatest candidate: what one turn of a loop does. Assumes nothing.
-use mathlib.Core.Path.{_≡_, refl, sym, ap, _∙_, fun-ext}
+use mathlib.Core.Path.{_≡_, refl, sym, ap, subst, _∙_, fun-ext}
 use mathlib.Core.Bool.{Bool, true, false, _&&_, not}
 use mathlib.Core.List.{List}
 use Prim.Native.Nat.{ℕ, suc, _+_, _<_}
-use lib.Dec.{eqb}
+use lib.Dec.{T, eqb}
 use lib.ListN.{length, set}
 use borrow.Author.Tests.{eqb-true}
-use Rattle.sets.specs.Choice.{pick, option, and-true}
+use Rattle.sets.specs.Choice.{pick, option, and-left, and-true}
 use Rattle.sets.specs.Bounded.{without, all, all-next, greatest, greatest-at, greatest-under}
 use Rattle.sets.specs.Marks.{marked, marked-store}
 use Rattle.taskset.specs.declared.Rule.{Rule}
@@ -26,6 +26,13 @@ use Rattle.assignment.specs.Search.{index, time, candidate, chosen}
 -- the tasks that the first k rules leave ready
 unfoldable pub readyBy : ℕ → List Rule → (ℕ → Bool) → (ℕ → Bool) → ℕ → Bool
 readyBy k rules active left i = left i && all k (λ q. not (blocks rules active left i q))
+
+-- it is one of the tasks left
+pub ready-left : (rules : List Rule) (active left : ℕ → Bool) {readies : ℕ → Bool} → readies ≡ ready rules active left → (i : ℕ) → T (readies i)
+    → T (left i)
+unfolding ready
+ready-left rules active left e i t =
+    and-left (left i) (all (length rules) (λ k. not (blocks rules active left i k))) (subst (λ (f : ℕ → Bool). T (f i)) e t)
 
 pub ready-start : (rules : List Rule) (active left : ℕ → Bool) → left ≡ readyBy 0 rules active left
 unfolding readyBy all
@@ -103,6 +110,14 @@ module _ (test : Test) (ready left : ℕ → Bool) (i : ℕ) where
 
   pub candidate-late : ready i ≡ false → candidate test ready left i ≡ Late
   candidate-late off = rw off
+
+  -- within its deadline only where it is ready
+  pub candidate-within : T (isWithin (candidate test ready left i)) → T (ready i)
+  candidate-within = go (ready i)
+    where
+      go : (b : Bool) → T (isWithin (pick b (test i (without left i)) Late)) → T b
+      go true t = tt
+      go false t = t
 
 -- ---- the greatest candidate
 

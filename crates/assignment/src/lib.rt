@@ -10,13 +10,19 @@ ghost use Rattle.sets.specs.Marks.{first, marked};
 ghost use Rattle.taskset.specs.Refusals.{maxTasks};
 ghost use Rattle.taskset.specs.Model.{SoundTasks, Sound};
 ghost use Rattle.taskset.specs.Words.{tasksIn, rulesIn, listsIn};
+ghost use Rattle.response.specs.Blocking.{blockingOf};
+ghost use Rattle.response.specs.Resources.{BlocksEach};
 ghost use Rattle.response.specs.Timing.{timingOf, upToDeadline};
 ghost use Rattle.assignment.specs.Orders.{noRule, SomeOrder};
 ghost use Rattle.assignment.specs.LateTasks.{lateResponse};
 ghost use Rattle.assignment.specs.Audsley.{passes, ready, assign, responseAt, problem, bare};
 ghost use Rattle.assignment.specs.Search.{Indexed, candidate, chosen, AnyOf, lowestFree, Searched, Ended, HoldsLevels, Assigns, Known, Helps};
 use response::Response;
+use response::blocking_by;
+use response::level_blocking;
 use response::reported;
+use response::resources_after;
+use response::resources_at;
 use response::response_time;
 use response::timing_of;
 use taskset::MAX_RULES;
@@ -96,29 +102,32 @@ fn others(left: [bool; MAX_TASKS], task: TaskIndex) -> [bool; MAX_TASKS]
 
 // The response of a task with the others that are left above it. The search stops at the deadline: whether it is met is known
 // there.
-fn level_response(rows: &[u64], left: [bool; MAX_TASKS], task: TaskIndex) -> Response
+fn level_response(rows: &[u64], left: [bool; MAX_TASKS], blocking: u64, task: TaskIndex) -> Response
     requires { ⌜ SoundTasks (tasksIn (now rows)) ⌝ }
     requires { ⌜ task .0 < length (tasksIn (now rows)) ⌝ }
+    requires { ⌜ blocking ≡ blockingOf (tasksIn (now rows)) (task .0) (without (marked left) (task .0)) ⌝ }
     ensures { λ r. ⌜ r ≡ responseAt (tasksIn (now (rows .entry))) (task .0) (without (marked left) (task .0)) ⌝ }
     ensures stops { λ r. ⌜ r ≡ upToDeadline (timingOf (tasksIn (now (rows .entry))) (task .0) (without (marked left) (task .0))) ⌝ }
 {
     let own = task_in(rows, task.0);
     let above = others(left, task);
-    response_time(rows, task, above, own.deadline)
+    response_time(rows, task, above, blocking, own.deadline)
 }
 
 // The response that is reported of a task left without a level: up to its period, with the others that are left above it.
-pub fn late_response(rows: &[u64], left: [bool; MAX_TASKS], task: TaskIndex) -> u64
+pub fn late_response(rows: &[u64], left: [bool; MAX_TASKS], blocking: u64, task: TaskIndex) -> u64
     requires { ⌜ SoundTasks (tasksIn (now rows)) ⌝ }
     requires { ⌜ task .0 < length (tasksIn (now rows)) ⌝ }
+    requires { ⌜ blocking ≡ blockingOf (tasksIn (now rows)) (task .0) (without (marked left) (task .0)) ⌝ }
     ensures { λ r. ⌜ r ≡ lateResponse (tasksIn (now (rows .entry))) (marked left) (task .0) ⌝ }
 {
-    reported(timing_of(rows, task, others(left, task)))
+    reported(timing_of(rows, task, others(left, task), blocking))
 }
 
 // Of the ready tasks that meet their deadline, the one with the greatest index takes the level.
-fn choose(rows: &[u64], ready: [bool; MAX_TASKS], left: [bool; MAX_TASKS]) -> Choice
+fn choose(rows: &[u64], ready: [bool; MAX_TASKS], left: [bool; MAX_TASKS], blocking: u64) -> Choice
     requires { ⌜ SoundTasks (tasksIn (now rows)) ⌝ }
+    requires { ⌜ BlocksEach (tasksIn (now rows)) (marked ready) (marked left) blocking ⌝ }
     ensures { λ r. ⌜ r ≡ chosen (length (tasksIn (now (rows .entry))))
         (candidate (responseAt (tasksIn (now (rows .entry)))) (marked ready) (marked left)) ⌝ }
 {
@@ -129,7 +138,7 @@ fn choose(rows: &[u64], ready: [bool; MAX_TASKS], left: [bool; MAX_TASKS]) -> Ch
         let i = n - tried;
         if ready[i] {
             let task = TaskIndex(i);
-            if let Response::Within(response) = level_response(rows, left, task) {
+            if let Response::Within(response) = level_response(rows, left, blocking, task) {
                 return Choice::Takes(task, response);
             }
         }
@@ -144,8 +153,10 @@ fn choose_last(
     ready: [bool; MAX_TASKS],
     other: Search,
     left: [bool; MAX_TASKS],
+    blocking: u64,
 ) -> Choice
     requires { ⌜ SoundTasks (tasksIn (now rows)) ⌝ }
+    requires { ⌜ BlocksEach (tasksIn (now rows)) (marked ready) (marked left) blocking ⌝ }
     requires { ⌜ Searched (bare (tasksIn (now rows))) noRule other ⌝ }
     ensures { λ r. ⌜ AnyOf (length (tasksIn (now (rows .entry))))
         (candidate (responseAt (tasksIn (now (rows .entry)))) (marked ready) (marked left)) r ⌝ }
@@ -162,7 +173,7 @@ fn choose_last(
             break;
         }
     }
-    choose(rows, ready, left)
+    choose(rows, ready, left, blocking)
 }
 
 // A ready task that meets its deadline at this level: one that is known to, else the one of `choose_last`.
@@ -172,8 +183,10 @@ fn choose_any(
     known: [bool; MAX_TASKS],
     other: Search,
     left: [bool; MAX_TASKS],
+    blocking: u64,
 ) -> Choice
     requires { ⌜ SoundTasks (tasksIn (now rows)) ⌝ }
+    requires { ⌜ BlocksEach (tasksIn (now rows)) (marked ready) (marked left) blocking ⌝ }
     requires { ⌜ Known (bare (tasksIn (now rows))) (marked left) (marked known) ⌝ }
     requires { ⌜ Searched (bare (tasksIn (now rows))) noRule other ⌝ }
     ensures { λ r. ⌜ AnyOf (length (tasksIn (now (rows .entry))))
@@ -186,16 +199,17 @@ fn choose_any(
             return Choice::Takes(TaskIndex(j), 0);
         }
     }
-    choose_last(rows, ready, other, left)
+    choose_last(rows, ready, other, left, blocking)
 }
 
 // A task meets its deadline with the others that are left above it.
-fn passes(rows: &[u64], left: [bool; MAX_TASKS], task: TaskIndex) -> bool
+fn passes(rows: &[u64], left: [bool; MAX_TASKS], blocking: u64, task: TaskIndex) -> bool
     requires { ⌜ SoundTasks (tasksIn (now rows)) ⌝ }
     requires { ⌜ task .0 < length (tasksIn (now rows)) ⌝ }
+    requires { ⌜ blocking ≡ blockingOf (tasksIn (now rows)) (task .0) (without (marked left) (task .0)) ⌝ }
     ensures { λ r. ⌜ r ≡ passes (bare (tasksIn (now (rows .entry)))) (task .0) (without (marked left) (task .0)) ⌝ }
 {
-    if let Response::Within(_) = level_response(rows, left, task) {
+    if let Response::Within(_) = level_response(rows, left, blocking, task) {
         return true;
     }
     false
@@ -211,11 +225,12 @@ pub fn passing(rows: &[u64], left: [bool; MAX_TASKS], given: bool) -> [bool; MAX
     if !given {
         return known;
     }
+    let blocking = level_blocking(rows, left);
     let n = rows.len() / TASK_WORDS;
     let mut j = 0;
     while j < n {
         if left[j] {
-            known[j] = passes(rows, left, TaskIndex(j));
+            known[j] = passes(rows, left, blocking, TaskIndex(j));
         }
         j += 1;
     }
@@ -249,14 +264,17 @@ pub fn fill_levels(
     let given = hints.given;
     let known = hints.known;
     let other = hints.other;
+    let start = from.left;
+    let mut resources = resources_at(rows, start);
+    let mut blocking = blocking_by(resources);
     let mut search = from;
     while 0 < search.free {
         let left = search.left;
         let ready = ready(rules, active, left);
         let choice = if given {
-            choose_any(rows, ready, known, other, left)
+            choose_any(rows, ready, known, other, left, blocking)
         } else {
-            choose(rows, ready, left)
+            choose(rows, ready, left, blocking)
         };
         let Choice::Takes(task, response) = choice else {
             return search;
@@ -268,6 +286,10 @@ pub fn fill_levels(
         search.responses[at] = response;
         search.free = at;
         search.left[i] = false;
+        if 0 < resources.used {
+            resources = resources_after(rows, resources, task);
+            blocking = blocking_by(resources);
+        }
     }
     search
 }

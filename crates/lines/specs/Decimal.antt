@@ -41,8 +41,9 @@ unfoldable pub isNumber : List ℕ → Bool
 isNumber bs =
     leb 1 (length bs) && leb (length bs) maxDigits && areDigits bs && (eqb (length bs) 1 || not (eqb (getD bs 0 0) 48))
 
-abbrev pub numberIn : List ℕ → Number
-numberIn bs = pick (isNumber bs) (Value (value bs)) Malformed
+-- the number of a field that starts at a position, and where the field ends
+abbrev pub numberFrom : ℕ → List ℕ → Number
+numberFrom at bs = pick (isNumber bs) (Value (value bs) (at + length bs)) Malformed
 
 -- ---- written
 

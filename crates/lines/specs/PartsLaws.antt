@@ -44,20 +44,28 @@ module _ {m : ℕ} {bs : List ℕ} {at end : ℕ} (p : Unmarked m bs at end) whe
   abbrev gone : List ℕ
   gone = take (end - at) (drop at bs)
 
-  pub unmarked-more : end < length bs → (getD bs end 0 ≡ m → ⊥) → Unmarked m bs at (end + 1)
-  unfolding upTo
-  unmarked-more l n =
-      let b = getD bs end 0 in
+  -- one byte more
+  pub gone-more : end < length bs → take (end + 1 - at) (drop at bs) ≡ gone ++ getD bs end 0 ∷ []
+  gone-more l =
       let k = end - at in
       let more : end + 1 - at ≡ suc k = omega arith in
       let back : at + k ≡ end = omega arith in
-      let grown = take-suc (drop at bs) k 0 (omega (arith, length-drop at bs)) in
-      let last : take (suc k) (drop at bs) ≡ gone ++ b ∷ [] = rw (grown, getD-drop at bs k 0, back) in
-      let next : upTo m (drop end bs) ≡ b ∷ upTo m (drop (suc end) bs) = rw (drop-cons bs end 0 l, ne-eqb b m n) in
+      rw (more, take-suc (drop at bs) k 0 (omega (arith, length-drop at bs)), getD-drop at bs k 0, back)
+
+  -- it is not the mark: it belongs to what stands before the first mark
+  pub unmarked-next : end < length bs → (getD bs end 0 ≡ m → ⊥)
+      → upTo m (drop at bs) ≡ gone ++ getD bs end 0 ∷ upTo m (drop (suc end) bs)
+  unfolding upTo
+  unmarked-next l n = p .same ∙ rw (drop-cons bs end 0 l, ne-eqb (getD bs end 0) m n)
+
+  pub unmarked-more : end < length bs → (getD bs end 0 ≡ m → ⊥) → Unmarked m bs at (end + 1)
+  unmarked-more l n =
       record {
         past = omega arith;
         within = omega arith;
-        same = p .same ∙ rw (next, more, add-one end, last) (sym (append-snoc gone b (upTo m (drop (suc end) bs))));
+        same =
+            unmarked-next l n
+            ∙ rw (gone-more l, add-one end) (sym (append-snoc gone (getD bs end 0) (upTo m (drop (suc end) bs))));
       }
 
   -- the mark stands at `end`

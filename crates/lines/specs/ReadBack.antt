@@ -1,6 +1,6 @@
 -- A written number reads back, and the numbers that can be read are the ones that are written. Assumes nothing.
 use mathlib.Core.Path.{_≡_, refl, sym, ap, _∙_}
-use mathlib.Core.Bool.{Bool, true, false, not, _||_, or-true, true≢false}
+use mathlib.Core.Bool.{true, not, _||_, or-true}
 use mathlib.Core.List.{List, [], _∷_, _++_, append-assoc, append-nil}
 use mathlib.Core.Logic.{_⊎_, inl, inr, _↔_, _≢_}
 use Prim.Native.Nat.{ℕ, zero, suc, _+_, _-_, _*_, _/_, _%_, _^_, _≤_, _<_}
@@ -9,21 +9,20 @@ use native.Mathlib.Omega.{arith}
 use lib.Dec.{T, leb, eqb, leb→le, le→leb}
 use lib.ListN.{length, getD, length-append, List·getD-append}
 use borrow.Author.Tests.{ne-eqb, eq-eqb}
-use Rattle.sets.specs.Choice.{pick, T→true, true→T, lt-or-le, and-intro, and-left, and-right}
-use Rattle.lines.specs.declared.Number.the-variants.{Value, Malformed}
-use Rattle.lines.specs.Decimal.{maxDigits, isDigit, areDigits, valueAfter, value, isNumber, numberIn, decimal}
+use Rattle.sets.specs.Choice.{T→true, true→T, lt-or-le, and-intro, and-left, and-right}
+use Rattle.lines.specs.Decimal.{maxDigits, isDigit, areDigits, valueAfter, value, isNumber, decimal}
 use Rattle.lines.specs.DecimalLaws.{decimal-one, decimal-more}
 
 -- ---- digits, one more at the end
 
 -- their value
-pub value-snoc : (v : ℕ) (ds : List ℕ) (d : ℕ) → valueAfter v (ds ++ d ∷ []) ≡ valueAfter v ds * 10 + (d - 48)
+value-snoc : (v : ℕ) (ds : List ℕ) (d : ℕ) → valueAfter v (ds ++ d ∷ []) ≡ valueAfter v ds * 10 + (d - 48)
 unfolding valueAfter
 value-snoc v [] d = refl
 value-snoc v (b ∷ bs) d = value-snoc (v * 10 + (b - 48)) bs d
 
 -- and they are digits still
-pub digits-snoc : (ds : List ℕ) (d : ℕ) → T (areDigits ds) → T (isDigit d) → T (areDigits (ds ++ d ∷ []))
+digits-snoc : (ds : List ℕ) (d : ℕ) → T (areDigits ds) → T (isDigit d) → T (areDigits (ds ++ d ∷ []))
 unfolding areDigits
 digits-snoc [] d t s = and-intro (isDigit d) true s tt
 digits-snoc (b ∷ bs) d t s =
@@ -66,7 +65,7 @@ decimal-width k n = by-digits (λ n ds. (k : ℕ) → 1 ≤ k → n < 10 ^ k →
         omega (arith, length-append (decimal m) ((48 + d) ∷ []), front (suc k) (omega arith) (omega arith))
 
 -- the digits have its value
-decimal-value : (n : ℕ) → value (decimal n) ≡ n
+pub decimal-value : (n : ℕ) → value (decimal n) ≡ n
 unfolding valueAfter
 decimal-value =
     by-digits (λ n ds. value ds ≡ n) (λ d few. omega arith)
@@ -120,7 +119,7 @@ pub number-bound : (bs : List ℕ) → T (areDigits bs) → valueAfter 0 bs < 10
 number-bound bs t = omega (arith, below 0 bs t)
 
 -- one more digit, after a value above zero
-decimal-snoc : (v b : ℕ) → 1 ≤ v → T (isDigit b) → decimal (v * 10 + (b - 48)) ≡ decimal v ++ b ∷ []
+pub decimal-snoc : (v b : ℕ) → 1 ≤ v → T (isDigit b) → decimal (v * 10 + (b - 48)) ≡ decimal v ++ b ∷ []
 decimal-snoc v b some t =
     let digit = digit-bounds b t in
     let n : ℕ = v * 10 + (b - 48) in
@@ -150,7 +149,7 @@ unfolding isNumber
 number-parts bs t = search (and-left, and-right, leb→le)
 
 -- of several digits the first is not 0
-not-zero : (l b : ℕ) → 1 < l → T (eqb l 1 || not (eqb b 48)) → b ≢ 48
+pub not-zero : (l b : ℕ) → 1 < l → T (eqb l 1 || not (eqb b 48)) → b ≢ 48
 not-zero l b more t e = rw (ne-eqb l 1 (omega arith), eq-eqb b 48 e) at t
 
 -- the digits of a number are the ones that are written
@@ -175,20 +174,18 @@ decimal-number n h =
     search (and-intro, le→leb, decimal-some n, decimal-width maxDigits n (omega arith) h, decimal-digits n, decimal-plain n)
 
 -- and reads as the one that was written
-pub read-back : (n : ℕ) → n < 10 ^ maxDigits → numberIn (decimal n) ≡ Value n
-read-back n h = rw (T→true (isNumber (decimal n)) (decimal-number n h), decimal-value n)
+pub read-back : (n : ℕ) → n < 10 ^ maxDigits → (isNumber (decimal n) ≡ true) × (value (decimal n) ≡ n)
+read-back n h = (T→true (isNumber (decimal n)) (decimal-number n h), decimal-value n)
 
 -- only what is written for n reads as n
-pub number-exactly : (bs : List ℕ) (n : ℕ) → (numberIn bs ≡ Value n) ↔ ((bs ≡ decimal n) × (n < 10 ^ maxDigits))
-number-exactly bs n = (go (isNumber bs) refl, λ h. rw (h .0) (read-back n (h .1)))
+pub number-exactly : (bs : List ℕ) (n : ℕ)
+    → ((isNumber bs ≡ true) × (value bs ≡ n)) ↔ ((bs ≡ decimal n) × (n < 10 ^ maxDigits))
+number-exactly bs n = (read, λ h. rw (h .0) (read-back n (h .1)))
   where
-    go : (c : Bool) → isNumber bs ≡ c → pick c (Value (value bs)) Malformed ≡ Value n
-        → (bs ≡ decimal n) × (n < 10 ^ maxDigits)
-    go true passed e =
-        let t = true→T (isNumber bs) passed in
-        let (width, digits, _) = number-parts bs t in
-        let same : value bs ≡ n = cc in (
+    read : (isNumber bs ≡ true) × (value bs ≡ n) → (bs ≡ decimal n) × (n < 10 ^ maxDigits)
+    read (is, same) =
+        let t = true→T (isNumber bs) is in
+        let (width, digits, _) = number-parts bs t in (
           sym (decimal-of bs t) ∙ ap decimal same,
-          omega (arith, number-bound bs digits, pow-le-pow-right {n = 10} (omega arith) width),
+          omega (arith, same, number-bound bs digits, pow-le-pow-right {n = 10} (omega arith) width),
         )
-    go false failed e = absurd (true≢false (cc))

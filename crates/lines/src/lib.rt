@@ -7,7 +7,7 @@ ghost use mathlib.Core.List.{List};
 ghost use Prim.Native.Nat.{ℕ, _+_, _*_, _<_, _≤_};
 ghost use lib.ListN.{length, drop};
 ghost use Rattle.sets.specs.Onto.{onto};
-ghost use Rattle.lines.specs.Decimal.{numberIn, decimal, field};
+ghost use Rattle.lines.specs.Decimal.{tab, numberFrom, decimal, field};
 ghost use Rattle.lines.specs.Parts.{upTo};
 ghost use Rattle.lines.specs.Line.{line, linesOf, chunks, maxHead, maxEntries, maxLine};
 
@@ -16,11 +16,12 @@ pub const TAB: u8 = 9;
 
 pub const FEED: u8 = 10;
 
-pub const MAX_DIGITS: usize = 7;
+// The greatest number that another digit may follow: one of 6 digits.
+const MAX_FRONT: u64 = 999_999;
 
-// What a field's bytes are: 1 to 7 digits with no leading zero, or no number.
+// What a field's bytes are: 1 to 7 digits with no leading zero, and where they end; or no number.
 pub enum Number {
-    Value(u64),
+    Value(u64, usize),
     Malformed,
 }
 
@@ -48,30 +49,36 @@ fn wide(byte: u8) -> u64
     byte as u64
 }
 
-pub fn read_number(bytes: &[u8]) -> Number
-    ensures { λ r. ⌜ r ≡ numberIn (now (bytes .entry)) ⌝ }
+// The number in the field that starts at a position: it ends at a tab, or where the line does.
+pub fn number_from(line: &[u8], at: usize) -> Number
+    ensures { λ r. ⌜ r ≡ numberFrom at (upTo tab (drop at (now (line .entry)))) ⌝ }
 {
-    let n = bytes.len();
-    if n < 1 {
+    let n = line.len();
+    if n <= at {
         return Number::Malformed;
     }
-    if MAX_DIGITS < n {
+    let first = wide(line[at]);
+    if (first < 48) | (57 < first) {
         return Number::Malformed;
     }
-    if (n != 1) & (bytes[0] == b'0') {
-        return Number::Malformed;
-    }
-    let mut value: u64 = 0;
-    let mut i = 0;
-    while i < n {
-        let digit = wide(bytes[i]);
+    let mut value = first - 48;
+    let mut end = at + 1;
+    while end < n {
+        let byte = line[end];
+        if byte == TAB {
+            return Number::Value(value, end);
+        }
+        if (value == 0) | (MAX_FRONT < value) {
+            return Number::Malformed;
+        }
+        let digit = wide(byte);
         if (digit < 48) | (57 < digit) {
             return Number::Malformed;
         }
         value = value * 10 + (digit - 48);
-        i += 1;
+        end += 1;
     }
-    Number::Value(value)
+    Number::Value(value, end)
 }
 
 // How many digits a number has.

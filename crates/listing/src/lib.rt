@@ -20,6 +20,7 @@ use lines::line_size;
 use lines::lines_size;
 use lines::put_line;
 use lines::put_lines;
+use response::level_blocking;
 use taskset::MAX_RULE_WORDS;
 use taskset::MAX_RULES;
 use taskset::MAX_TASK_WORDS;
@@ -120,11 +121,12 @@ fn late_lines(left: [bool; MAX_TASKS], rows: &[u64], numbers: &mut [u64]) -> usi
     ensures lines { λ r. ⌜ HasLines lateWidth (lateLines (tasksIn (now (rows .entry))) (marked left)) (now (numbers .exit)) ⌝ }
 {
     let n = rows.len() / TASK_WORDS;
+    let blocking = level_blocking(rows, left);
     let mut count = 0;
     let mut k = 0;
     while k < n {
         if left[k] {
-            let line = [k as u64, late_response(rows, left, TaskIndex(k))];
+            let line = [k as u64, late_response(rows, left, blocking, TaskIndex(k))];
             put_numbers(numbers, LATE_WIDTH * count, &line);
             count += 1;
         }
@@ -174,7 +176,6 @@ pub fn show(decided: Decided, rows: &[u64], rules: &[u64], out: &mut [u8]) -> Sh
         (outcome (listsIn (now (rows .entry)) (now (rules .entry))) (decided .verdict))) (now (out .entry)) ⌝ }
 {
     let mut numbers = [0u64; WIDTH * MAX_RULES];
-    let mut late = [0u64; LATE_WIDTH * MAX_TASKS];
     let verdict = decided.verdict;
     let answer = verdict.answer;
     match answer {
@@ -183,10 +184,12 @@ pub fn show(decided: Decided, rows: &[u64], rules: &[u64], out: &mut [u8]) -> Sh
             let n = rows.len() / TASK_WORDS;
             let order = verdict.order;
             let responses = verdict.responses;
+            let late = [0u64; LATE_WIDTH];
             level_lines(order, responses, n, &mut numbers);
             write(b"order\t", &numbers[..WIDTH * n], &late[..0], out)
         }
         Answer::Core => {
+            let mut late = [0u64; LATE_WIDTH * MAX_TASKS];
             let core = verdict.core;
             let left = decided.left;
             let count = rule_lines(core, rules, &mut numbers);

@@ -5,11 +5,16 @@
  * parted by one tab; a number is 1 to 7 decimal digits, and none but 0 itself
  * begins with 0.
  *
- *     t  C  T  D  J  B     a task: execution time, period, deadline, jitter, blocking
- *     r  u  l              a rule: task u has a higher priority than task l
+ *     t  C  T  D  J  S0 .. S7     a task: execution time, period, deadline, jitter, and the
+ *                                 longest section on each of eight resources, 0 where it uses none
+ *     r  u  l                     a rule: task u has a higher priority than task l
  *
  * Times are whole microseconds. Tasks and rules have places, counted from 0.
  * A rule may name only tasks that stand on lines before it.
+ *
+ * Tasks share resources by the ceiling protocol: a task is blocked for the
+ * longest section that a task below it holds on a resource that the task itself
+ * or some task above it uses.
  *
  * The listing, in the same form, is an order in which every task meets its
  * deadline and every rule is kept:
@@ -65,7 +70,7 @@ enum {
     ORDERS_EXECUTION_RANGE = 2,  /* an execution time is not 1 to the period */
     ORDERS_DEADLINE_RANGE = 3,   /* a deadline is not 1 to the period */
     ORDERS_JITTER_RANGE = 4,     /* a jitter is not 0 to the period less 1 */
-    ORDERS_BLOCKING_RANGE = 5,   /* a blocking is not 0 to the period */
+    ORDERS_SECTION_RANGE = 5,    /* a section is longer than the execution time */
     ORDERS_SAME_TASK_TWICE = 6,  /* a rule names one task twice */
     ORDERS_UNREADABLE_LINE = 7,  /* a line does not have the form above */
     ORDERS_TEXT_TOO_LONG = 8,    /* the text has more than ORDERS_TEXT_MAX bytes */

@@ -78,6 +78,7 @@ static size_t need(void)
 /*
  * 64 tasks and 128 rules that take long: six tasks leave little of the
  * processor, rules stand in circles, and late tasks are tried at each level.
+ * All eight resources are used.
  */
 static struct bytes hostile(void)
 {
@@ -85,9 +86,13 @@ static struct bytes hostile(void)
     static uint8_t made[ORDERS_TEXT_MAX];
     struct bytes t = { made, 0 };
     for (int k = 0; k < 6; k++)
-        PUT(made, t.len, "t\t%d\t%d\t%d\t0\t0\n", rows[k][0], rows[k][1], rows[k][1]);
-    for (int k = 6; k < 64; k++)
-        PUT(made, t.len, "t\t1\t1000000\t1000000\t0\t%d\n", k < 39 ? 0 : k - 4);
+        PUT(made, t.len, "t\t%d\t%d\t%d\t0" NO_SECTIONS, rows[k][0], rows[k][1], rows[k][1]);
+    for (int k = 6; k < 64; k++) {
+        PUT(made, t.len, "t\t1\t1000000\t%d\t0", k < 39 ? 1000000 : 18704 * (64 - k) + 40000);
+        for (int r = 0; r < 8; r++)
+            PUT(made, t.len, "\t%d", k % 8 == r);
+        PUT(made, t.len, "\n");
+    }
     for (int k = 0; k < 128; k++)
         PUT(made, t.len, "r\t%d\t%d\n", 6 + k % 33, 6 + (k + 1) % 33);
     return t;

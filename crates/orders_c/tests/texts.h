@@ -120,6 +120,9 @@ static inline struct pair next_pair(struct store *s)
 /* Adds to a text or a listing that is being made. */
 #define PUT(room, len, ...) ((len) += (size_t)sprintf((char *)(room) + (len), __VA_ARGS__))
 
+/* The end of a task line whose task uses no resource. */
+#define NO_SECTIONS "\t0\t0\t0\t0\t0\t0\t0\t0\n"
+
 /*
  * 64 tasks with 128 rules, each task above the next, then above the next but
  * one, and so on. Each has response 1000000: the longest order, 885 bytes.
@@ -131,7 +134,7 @@ static inline struct pair full_order(void)
     int rules = 0;
     PUT(listing, made.answer.len, "order\t64\n");
     for (int k = 0; k < 64; k++) {
-        PUT(text, made.text.len, "t\t1\t1000000\t1000000\t%d\t0\n", 999999 - 2 * k);
+        PUT(text, made.text.len, "t\t1\t1000000\t1000000\t%d" NO_SECTIONS, 999999 - 2 * k);
         PUT(listing, made.answer.len, "%d\t%d\t1000000\n", k, k);
     }
     for (int step = 1; rules < 128; step++)
@@ -150,7 +153,7 @@ static inline struct pair full_core(void)
     struct pair made = { { text, 0 }, { listing, 0 } };
     PUT(listing, made.answer.len, "core\t64\n");
     for (int k = 0; k < 64; k++)
-        PUT(text, made.text.len, "t\t1\t1000000\t1000000\t0\t0\n");
+        PUT(text, made.text.len, "t\t1\t1000000\t1000000\t0" NO_SECTIONS);
     for (int k = 0; k < 128; k++)
         PUT(text, made.text.len, "r\t%d\t%d\n", k % 64, (k + 1) % 64);
     for (int k = 0; k < 64; k++)
@@ -168,7 +171,7 @@ static inline struct pair full_late(void)
     struct pair made = { { text, 0 }, { listing, 0 } };
     PUT(listing, made.answer.len, "core\t0\n");
     for (int k = 0; k < 64; k++) {
-        PUT(text, made.text.len, "t\t1\t1000000\t1\t0\t999936\n");
+        PUT(text, made.text.len, "t\t15625\t1000000\t1\t0" NO_SECTIONS);
         PUT(listing, made.answer.len, "late\t%d\t1000000\n", k);
     }
     for (int k = 0; k < 128; k++)

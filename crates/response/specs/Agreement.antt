@@ -97,7 +97,7 @@ window-same d e room same = same-from d e room 1 (λ v low high. same v low (ome
 
 -- ---- less demand, no longer a response
 
-pub less-demand : (c d : ℕ → ℕ) → ((w : ℕ) → c w ≤ d w) → (jitter limit r : ℕ) → responseOf d jitter limit ≡ Within r
+pub less-demand : (c d : ℕ → ℕ) → ((w : ℕ) → 1 ≤ w → c w ≤ d w) → (jitter limit r : ℕ) → responseOf d jitter limit ≡ Within r
     → (q : ℕ) × (responseOf c jitter limit ≡ Within q) × (q ≤ r)
 less-demand c d less jitter limit r e =
     go (responseOf c jitter limit) refl (subst (Says d jitter limit) e (response-says d jitter limit)) (response-says c jitter limit)
@@ -105,6 +105,6 @@ less-demand c d less jitter limit r e =
     go : (a : Response) → responseOf c jitter limit ≡ a → Says d jitter limit (Within r) → Says c jitter limit a
         → (q : ℕ) × (responseOf c jitter limit ≡ Within q) × (q ≤ r)
     go (Within q) f s t =
-        let h = t .1 .least (s .0) (s .1 .low) (le-trans (less (s .0)) (s .1 .met)) in
+        let h = t .1 .least (s .0) (s .1 .low) (le-trans (less (s .0) (s .1 .low)) (s .1 .met)) in
         (q, f, omega (arith, s .2, t .2))
-    go Late f s t = absurd (omega (arith, t (s .0) (s .1 .low) (le-trans (less (s .0)) (s .1 .met)), s .2, s .3))
+    go Late f s t = absurd (omega (arith, t (s .0) (s .1 .low) (le-trans (less (s .0) (s .1 .low)) (s .1 .met)), s .2, s .3))

@@ -9,16 +9,19 @@ use native.Mathlib.Nat.{le-refl, le-trans, le-antisymm, lt-of-lt-of-le, le-of-eq
 use native.Mathlib.Nat.{div-mul-le-self, le-div-iff-mul-le, lt-div-mul-add, div-lt-iff-lt-mul, div-zero}
 use native.Mathlib.Nat.{mul-le-mul, mul-le-mul-left, mul-le-mul-right, suc-mul, one-mul}
 use native.Mathlib.Omega.{arith}
+use lib.Dec.{T}
 use lib.ListN.{length, getD}
-use Rattle.sets.specs.Bounded.{Subset}
-use Rattle.sets.specs.Sum.{sum, sum-mono, sum-le}
+use Rattle.sets.specs.Bounded.{Subset, every}
+use Rattle.sets.specs.Sum.{sum, sum-mono, sum-less, sum-le}
 use Rattle.taskset.specs.declared.Task.{Task}
 use Rattle.taskset.specs.Refusals.{maxTasks, maxPeriod, InRanges}
-use Rattle.taskset.specs.Model.{taskAt}
+use Rattle.taskset.specs.Model.{taskAt, SoundTasks}
 use Rattle.response.specs.declared.Response.the-variants.{Within}
 use Rattle.response.specs.Equation.{ceil, interference, demand, responseTime}
 use Rattle.response.specs.Agreement.{less-demand}
-use Rattle.response.specs.Load.{keptAt, every, loadDemand, IsLoad}
+use Rattle.response.specs.Blocking.{blockingOf}
+use Rattle.response.specs.BlockingLaws.{blocking-fewer}
+use Rattle.response.specs.Load.{keptAt, loadDemand, IsLoad}
 
 -- ---- rounding up
 
@@ -61,13 +64,32 @@ interference-le t w r =
     let q = ceil (w + t .jitter) (t .period) in
     omega (arith, ceil-mul-le (w + t .jitter) (t .period) (t .execution) q refl (r .execution .1), r .period, r .jitter)
 
-module _ (tasks : List Task) (i : ℕ) where
-  pub demand-fewer : (fewer above : ℕ → Bool) → Subset (length tasks) fewer above → (w : ℕ)
+-- and in a window from 1 on it brings at least its execution time
+interference-some : (t : Task) (w : ℕ) → InRanges t → 1 ≤ w → t .execution ≤ interference t w
+unfolding interference
+interference-some t w r low =
+    let once : 1 ≤ ceil (w + t .jitter) (t .period) = le-div-iff-mul-le (r .period .0) .1 (omega (arith, r .period)) in
+    omega (arith, mul-le-mul-right (t .execution) once)
+
+module _ {tasks : List Task} (sound : SoundTasks tasks) (i : ℕ) where
+  -- a task that is no longer above takes away at least its execution time, and what it may block by is no more
+  pub demand-fewer : (fewer above : ℕ → Bool) → Subset (length tasks) fewer above → (w : ℕ) → 1 ≤ w
       → demand tasks i fewer w ≤ demand tasks i above w
   unfolding demand
-  demand-fewer fewer above sub w =
-      add-le-add (le-refl (taskAt tasks i .blocking + taskAt tasks i .execution))
-      (sum-mono (length tasks) fewer above _ _ sub (λ j l t. le-refl (interference (taskAt tasks j) w)))
+  demand-fewer fewer above sub w low = ⊎-elim same gains (blocking-fewer sound i fewer above sub)
+    where
+      brings : ℕ → ℕ
+      brings j = interference (taskAt tasks j) w
+
+      same : blockingOf tasks i fewer ≤ blockingOf tasks i above → demand tasks i fewer w ≤ demand tasks i above w
+      same h = omega (arith, h, sum-mono (length tasks) fewer above brings brings sub (λ j l t. le-refl (brings j)))
+
+      gains : (j : ℕ) × (j < length tasks) × T (above j) × (T (fewer j) → ⊥) × (blockingOf tasks i fewer ≤ taskAt tasks j .execution)
+          → demand tasks i fewer w ≤ demand tasks i above w
+      gains m =
+          let (j, inside, was, gone, h) = m in
+          let less = sum-less (length tasks) fewer above brings sub j inside was gone in
+          omega (arith, h, less, interference-some (taskAt tasks j) w (sound .each j inside) low)
 
   -- fewer tasks above never lengthen a response
   pub fewer-above : (fewer above : ℕ → Bool) → Subset (length tasks) fewer above

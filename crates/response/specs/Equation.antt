@@ -1,4 +1,4 @@
--- Document 01, "Response": the response-time equation of Joseph and Pandya with release jitter and blocking.
+-- Document 01, "Response": the response-time equation of Joseph and Pandya with release jitter, and the blocking of document 02, (c).
 -- First what the words say, as relations; then the same as functions that contracts cite. `Agreement` proves that they agree.
 -- Assumes nothing.
 use mathlib.Core.Path.{_≡_}
@@ -11,6 +11,7 @@ use Rattle.sets.specs.Choice.{pick}
 use Rattle.sets.specs.Sum.{sum}
 use Rattle.taskset.specs.declared.Task.{Task}
 use Rattle.taskset.specs.Model.{taskAt}
+use Rattle.response.specs.Blocking.{blockingOf}
 use Rattle.response.specs.declared.Window.{Window}
 use Rattle.response.specs.declared.Window.the-variants.{At, Beyond}
 use Rattle.response.specs.declared.Response.{Response}
@@ -24,10 +25,10 @@ ceil x t = (x + (t - 1)) / t
 unfoldable pub interference : Task → ℕ → ℕ
 interference t w = ceil (w + t .jitter) (t .period) * t .execution
 
--- demand(w) of task i with the tasks of `above`, others than i, above it: B + C of task i and what each of those brings
+-- demand(w) of task i with the tasks of `above`, others than i, above it: its blocking, its C and what each of those brings
 unfoldable pub demand : List Task → ℕ → (ℕ → Bool) → ℕ → ℕ
 demand tasks i above w =
-    taskAt tasks i .blocking + taskAt tasks i .execution + sum (length tasks) above (λ j. interference (taskAt tasks j) w)
+    blockingOf tasks i above + taskAt tasks i .execution + sum (length tasks) above (λ j. interference (taskAt tasks j) w)
 
 -- ---- what the words say of a demand d
 

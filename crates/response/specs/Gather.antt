@@ -12,6 +12,7 @@ use lib.Seq.{getD-set-same, getD-set-other, getD-take, length-take-le}
 use borrow.Author.Count.{below-more, below-none}
 use borrow.Author.Tests.{leb-true, le-leb, lt-leb}
 use Rattle.sets.specs.Choice.{pick}
+use Rattle.sets.specs.Bounded.{every}
 use Rattle.sets.specs.Sum.{sum, sum-none, sum-more, sum-start, sum-turn, sum-cong}
 use Rattle.taskset.specs.declared.Task.{Task}
 use Rattle.taskset.specs.Refusals.{maxPeriod, InRanges}
@@ -19,7 +20,8 @@ use Rattle.response.specs.declared.Load.{Load}
 use Rattle.response.specs.Equation.{interference, demand}
 use Rattle.response.specs.Demand.{interference-once}
 use Rattle.taskset.specs.Model.{taskAt, SoundTasks}
-use Rattle.response.specs.Load.{shareBy, shareOf, StandsFor, every, keptAt, loadDemand}
+use Rattle.response.specs.Blocking.{blockingOf}
+use Rattle.response.specs.Load.{shareBy, shareOf, StandsFor, keptAt, loadDemand}
 
 module _ (above : Bool) (room : ℕ) (t u : Task) (read : u ≡ t) where
   pub share-once : above ≡ true → room + u .jitter ≤ u .period
@@ -147,7 +149,7 @@ module _ {tasks : List Task} {above : ℕ → Bool} {room own : ℕ} where
               })
 
     -- at its end they stand for the demand
-    pub gathered-all : {i : ℕ} → own ≡ taskAt tasks i .blocking + taskAt tasks i .execution → j ≡ length tasks → n ≤ length kept
+    pub gathered-all : {i : ℕ} → own ≡ blockingOf tasks i above + taskAt tasks i .execution → j ≡ length tasks → n ≤ length kept
         → StandsFor tasks i above room base (take n kept) start
     unfolding demand loadDemand
     gathered-all e end fits =

@@ -12,6 +12,7 @@ use lib.Dec.{leb}
 use lib.ListN.{length}
 use borrow.Author.Tests.{leb-true, leb-false, lt-ltb, le-ltb, le-leb, lt-leb}
 use Rattle.sets.specs.Choice.{pick}
+use Rattle.sets.specs.Bounded.{every}
 use Rattle.sets.specs.Sum.{sum, sum-start, sum-turn, sum-le, sum-scaled}
 use Rattle.taskset.specs.declared.Task.{Task}
 use Rattle.taskset.specs.Refusals.{maxPeriod, InRanges}
@@ -22,7 +23,7 @@ use Rattle.response.specs.declared.Response.the-variants.{Late}
 use Rattle.response.specs.Equation.{ceil, interference, demand, windowOf, Says, respond, responseOf}
 use Rattle.response.specs.Agreement.{response-is, response-both, climb}
 use Rattle.response.specs.Demand.{ceil-above, ceil-least, interference-mono, interference-le, load-mono, kept-row}
-use Rattle.response.specs.Load.{Bounds, every, keptAt, IsLoad, loadDemand}
+use Rattle.response.specs.Load.{Bounds, keptAt, IsLoad, loadDemand}
 use Rattle.response.specs.Load.{scale, rate, releases, ends, fixedPart, ratePart, partOf, boundOf}
 
 -- ---- it is no more than what the task brings

@@ -7,6 +7,7 @@ use Prim.Native.Nat.{ℕ, _+_, _-_, _*_, _/_, _^_, _≤_, _<_}
 use lib.Dec.{leb, ltb}
 use lib.ListN.{length, getD}
 use Rattle.sets.specs.Choice.{pick}
+use Rattle.sets.specs.Bounded.{every}
 use Rattle.sets.specs.Sum.{sum}
 use Rattle.taskset.specs.declared.Task.{Task}
 use Rattle.taskset.specs.Refusals.{maxTasks, maxPeriod}
@@ -21,13 +22,10 @@ Bounds d w = (v : ℕ) → 1 ≤ v → d v ≤ v → w ≤ v
 
 -- ---- a load: a base, and tasks that are kept beside it, as indices
 
-abbrev pub every : ℕ → Bool
-every k = true
-
 abbrev pub keptAt : List Task → List ℕ → ℕ → Task
 keptAt tasks kept k = taskAt tasks (getD kept k 0)
 
--- B + C of a task, and the C of each task above at most; and some of a set's tasks
+-- blocking and C of a task, and the C of each task above at most; and some of a set's tasks
 pub record IsLoad (base : ℕ) (tasks : List Task) (kept : List ℕ) : Type 0 where
   pub sound : SoundTasks tasks
   pub low : 1 ≤ base

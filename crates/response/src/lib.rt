@@ -1,5 +1,7 @@
 // The response-time search of document 01: demand, response window, response; and up to the period, by document 02, (b).
 
+mod blocking;
+
 ghost use mathlib.Core.Path.{_≡_};
 ghost use Prim.Native.Nat.{_+_, _^_, _≤_, _<_};
 ghost use lib.ListN.{length, take};
@@ -7,11 +9,17 @@ ghost use Rattle.sets.specs.Marks.{marked};
 ghost use Rattle.taskset.specs.Refusals.{maxTasks, maxPeriod, InRanges};
 ghost use Rattle.taskset.specs.Model.{taskAt, SoundTasks};
 ghost use Rattle.taskset.specs.Words.{tasksIn};
+ghost use Rattle.response.specs.Blocking.{blockingOf};
 ghost use Rattle.response.specs.Equation.{ceil, interference, windowOf, responseTime, SaysResponse};
 ghost use Rattle.response.specs.Timing.{timingOf, SaysTiming, reported};
 ghost use Rattle.response.specs.Load.{Bounds, IsLoad, loadDemand, shareOf, StandsFor, scale, partOf, boundOf};
+pub use blocking::blocking_by;
+pub use blocking::level_blocking;
+pub use blocking::resources_after;
+pub use blocking::resources_at;
 use taskset::MAX_PERIOD;
 use taskset::MAX_TASKS;
+use taskset::RESOURCES;
 use taskset::TASK_WORDS;
 use taskset::Task;
 use taskset::TaskIndex;
@@ -19,6 +27,14 @@ use taskset::task_in;
 
 // 2³²: a load of this many parts is the whole processor.
 const SCALE: u64 = 4294967296;
+
+// What is kept at a level to know the blocking there: for each resource how many of the tasks left use it, and the longest section
+// on it of the others. No task uses a resource from `used` on.
+pub struct Resources {
+    pub used: usize,
+    pub users: [u64; RESOURCES],
+    pub held: [u64; RESOURCES],
+}
 
 // What a climb goes over: a base, how many tasks beside it, and the demand of both at 1.
 pub struct Load {
@@ -212,16 +228,18 @@ fn share(above: bool, rows: &[u64], j: usize, room: u64) -> Load
     }
 }
 
-// Gathers what a climb up to room goes over: B + C of the task with what is released once, and the others above.
+// Gathers what a climb up to room goes over: blocking and C of the task with what is released once, and the others above.
 fn gather(
     rows: &[u64],
     task: TaskIndex,
     above: [bool; MAX_TASKS],
+    blocking: u64,
     room: u64,
     kept: &mut [u8],
 ) -> Load
     requires { ⌜ SoundTasks (tasksIn (now rows)) ⌝ }
     requires { ⌜ task .0 < length (tasksIn (now rows)) ⌝ }
+    requires { ⌜ blocking ≡ blockingOf (tasksIn (now rows)) (task .0) (marked above) ⌝ }
     requires { ⌜ room ≤ maxPeriod ⌝ }
     requires { ⌜ maxTasks ≤ length (now kept) ⌝ }
     ensures { λ r. ⌜ r .count ≤ length (now (kept .exit)) ⌝ }
@@ -230,7 +248,7 @@ fn gather(
 {
     let n = rows.len() / TASK_WORDS;
     let own = task_in(rows, task.0);
-    let mut base = own.blocking + own.execution;
+    let mut base = blocking + own.execution;
     let mut start = base;
     let mut count = 0;
     let mut j = 0;
@@ -245,15 +263,17 @@ fn gather(
     Load { base, count, start }
 }
 
-// The response of a task with the marked tasks above it, searched for up to a limit.
+// The response of a task with the marked tasks above it and with its blocking, searched for up to a limit.
 pub fn response_time(
     rows: &[u64],
     task: TaskIndex,
     above: [bool; MAX_TASKS],
+    blocking: u64,
     limit: u64,
 ) -> Response
     requires { ⌜ SoundTasks (tasksIn (now rows)) ⌝ }
     requires { ⌜ task .0 < length (tasksIn (now rows)) ⌝ }
+    requires { ⌜ blocking ≡ blockingOf (tasksIn (now rows)) (task .0) (marked above) ⌝ }
     requires { ⌜ limit ≤ maxPeriod ⌝ }
     ensures { λ r. ⌜ r ≡ responseTime (tasksIn (now (rows .entry))) (task .0) (marked above) limit ⌝ }
     ensures says { λ r. ⌜ SaysResponse (tasksIn (now (rows .entry))) (task .0) (marked above) limit r ⌝ }
@@ -264,7 +284,7 @@ pub fn response_time(
     }
     let room = limit - own.jitter;
     let mut kept = [0u8; MAX_TASKS];
-    let load = gather(rows, task, above, room, &mut kept);
+    let load = gather(rows, task, above, blocking, room, &mut kept);
     let n = load.count;
     let Window::At(w) = climb(load.base, rows, &kept[..n], load.start, room) else {
         return Response::Late;
@@ -272,15 +292,16 @@ pub fn response_time(
     Response::Within(own.jitter + w)
 }
 
-// The response of a task with the marked tasks above it, up to its period, and whether it meets its deadline.
-pub fn timing_of(rows: &[u64], task: TaskIndex, above: [bool; MAX_TASKS]) -> Timing
+// The response of a task with the marked tasks above it and with its blocking, up to its period, and whether it meets its deadline.
+pub fn timing_of(rows: &[u64], task: TaskIndex, above: [bool; MAX_TASKS], blocking: u64) -> Timing
     requires { ⌜ SoundTasks (tasksIn (now rows)) ⌝ }
     requires { ⌜ task .0 < length (tasksIn (now rows)) ⌝ }
+    requires { ⌜ blocking ≡ blockingOf (tasksIn (now rows)) (task .0) (marked above) ⌝ }
     ensures { λ r. ⌜ r ≡ timingOf (tasksIn (now (rows .entry))) (task .0) (marked above) ⌝ }
     ensures says { λ r. ⌜ SaysTiming (tasksIn (now (rows .entry))) (task .0) (marked above) r ⌝ }
 {
     let own = task_in(rows, task.0);
-    let Response::Within(response) = response_time(rows, task, above, own.period) else {
+    let Response::Within(response) = response_time(rows, task, above, blocking, own.period) else {
         return Timing::PastPeriod;
     };
     if response <= own.deadline {

@@ -6,11 +6,15 @@ use mathlib.Core.Logic.{⊎-elim}
 use mathlib.Core.Option.{Option, none, some}
 use Prim.Native.Nat.{ℕ, zero, suc, _+_, _≤_, _<_}
 use native.Mathlib.Nat.{not-suc-le-zero, le-of-suc-le-suc, eq-or-lt-of-le, le-refl, le-step, add-le-add}
-use native.Mathlib.Nat.{add-lt-add-of-lt-of-le, add-lt-add-of-le-of-lt}
+use native.Mathlib.Nat.{add-lt-add-of-lt-of-le, add-lt-add-of-le-of-lt, eq-zero-or-pos}
 use native.Mathlib.Numerals.{add-one}
 use native.Mathlib.Omega.{arith}
-use lib.Dec.{T, eqb, eqb→eq, eqb-refl}
+use lib.Dec.{T, eqb, eqb→eq, eqb-refl, ltb, ltb→lt, lt→ltb}
 use Rattle.sets.specs.Choice.{pick, decided, and-intro, and-left, and-right, T→true, true→T, refuted→false, false→refuted}
+
+-- every number
+abbrev pub every : ℕ → Bool
+every k = true
 
 -- every number below n that is in B is in A
 abbrev pub Subset : ℕ → (ℕ → Bool) → (ℕ → Bool) → Type 0
@@ -120,6 +124,15 @@ unfoldable pub count : ℕ → (ℕ → Bool) → ℕ
 count zero p = 0
 count (suc n) p = count n p + pick (p n) 1 0
 
+-- a loop that counts up: nothing yet, and one number more
+pub count-none : (p : ℕ → Bool) → count 0 p ≡ 0
+unfolding count
+count-none p = refl
+
+pub count-more : (i : ℕ) (p : ℕ → Bool) → count (i + 1) p ≡ count i p + pick (p i) 1 0
+unfolding count
+count-more i p = rw add-one
+
 step-le : (a b : Bool) → (T b → T a) → pick b 1 0 ≤ pick a 1 0
 step-le true true f = le-refl 1
 step-le true false f = omega arith
@@ -176,6 +189,10 @@ count-whole zero A each = refl
 count-whole (suc n) A each =
     rw (count-whole n A (λ j h. each j (le-step h)), T→true (A n) (each n (le-refl (suc n)))) (add-one n)
 
+-- some pass: they number more than 0
+abbrev pub any : ℕ → (ℕ → Bool) → Bool
+any n p = ltb 0 (count n p)
+
 -- there is a member exactly when they number more than 0
 pub count-some : (n : ℕ) (A : ℕ → Bool) → 0 < count n A → (k : ℕ) × (k < n) × T (A k)
 unfolding count
@@ -189,3 +206,12 @@ count-some (suc n) A h = go (A n) refl (count-some n A) h
 
 pub count-pos : (n : ℕ) (A : ℕ → Bool) (k : ℕ) → k < n → T (A k) → 0 < count n A
 count-pos n A k h a = let l = count-less n (λ j. false) A (λ j i t. absurd t) k h a (λ t. t) in omega arith
+
+pub count-zero : (n : ℕ) (A : ℕ → Bool) → ((k : ℕ) → k < n → T (A k) → ⊥) → count n A ≡ 0
+count-zero n A empty = ⊎-elim (λ z. z) (λ h. let k = count-some n A h in absurd (empty (k .0) (k .1) (k .2))) (eq-zero-or-pos (count n A))
+
+pub any-found : (n : ℕ) (p : ℕ → Bool) → T (any n p) → (k : ℕ) × (k < n) × T (p k)
+any-found n p t = count-some n p (ltb→lt 0 (count n p) t)
+
+pub any-of : (n : ℕ) (p : ℕ → Bool) (k : ℕ) → k < n → T (p k) → T (any n p)
+any-of n p k h t = lt→ltb 0 (count n p) (count-pos n p k h t)

@@ -7,7 +7,7 @@ use Prim.Native.Nat.{ℕ, zero, suc, _+_, _≤_, _<_}
 use native.Mathlib.Nat.{not-suc-le-zero, le-of-suc-le-suc}
 use native.Mathlib.Omega.{arith}
 use lib.Dec.{eqb, ltb, ltb→lt, lt→ltb}
-use lib.ListN.{length, getD, set, replicate, length-replicate, getD-replicate, List·getD-eq-default}
+use lib.ListN.{length, getD, set, replicate, length-set, length-replicate, getD-replicate, List·getD-eq-default}
 use lib.Seq.{getD-set-same, getD-set-other, ext-getD}
 use borrow.Author.Tests.{eqb-true, eqb-false, lt-ltb, le-ltb}
 use Rattle.sets.specs.Choice.{pick, lt-or-le, same-test}
@@ -98,3 +98,38 @@ marked-padded n m A out =
     (λ l. pad-used n false (table m A) k (omega (arith, l, length-table m A)) ∙ getD-table m A false k l)
     (λ g. pad-rest n false (table m A) k (omega (arith, g, length-table m A)) ∙ sym (out k g))
     (lt-or-le k m))
+
+-- an array of n entries that a loop fills: those of f below k, and what stood there from k on
+pub record FilledTo (n k : ℕ) (f g : ℕ → ℕ) (xs : List ℕ) : Type 0 where
+  pub long : length xs ≡ n
+  pub done : (q : ℕ) → q < k → getD xs q 0 ≡ f q
+  pub rest : (q : ℕ) → k ≤ q → q < n → getD xs q 0 ≡ g q
+
+pub filled-none : (n : ℕ) (f : ℕ → ℕ) → FilledTo n 0 f (λ q. 0) (replicate n 0)
+filled-none n f =
+    record { long = length-replicate n 0; done = λ q h. absurd (not-suc-le-zero h); rest = λ q low high. getD-replicate n q 0 0 high }
+
+pub filled-old : (n : ℕ) (f : ℕ → ℕ) (xs : List ℕ) → length xs ≡ n → FilledTo n 0 f (λ q. getD xs q 0) xs
+filled-old n f xs long = record { long = long; done = λ q h. absurd (not-suc-le-zero h); rest = λ q low high. refl }
+
+pub filled-more : {n k : ℕ} {f g : ℕ → ℕ} {xs : List ℕ} {x : ℕ} → FilledTo n k f g xs → k < n → x ≡ f k → FilledTo n (k + 1) f g (set xs k x)
+filled-more {n} {k} {f} {g} {xs} {x} s h e =
+    record {
+      long = length-set xs k x ∙ s .long;
+      done = λ q l.
+          ⊎-elim (λ under. getD-set-other xs k q x 0 (λ same. omega (arith, under, same)) ∙ s .done q under)
+          (λ over.
+          let same : q ≡ k = omega arith in
+          rw same (getD-set-same xs k x 0 (omega (arith, h, s .long)) ∙ e)) (lt-or-le q k);
+      rest = λ q low high. getD-set-other xs k q x 0 (λ same. omega (arith, low, same)) ∙ s .rest q (omega arith) high;
+    }
+
+-- at its end it holds what h has
+pub filled-all : {n k : ℕ} {f g : ℕ → ℕ} {xs : List ℕ} → FilledTo n k f g xs → (h : ℕ → ℕ) → ((q : ℕ) → q < n → q < k → f q ≡ h q)
+    → ((q : ℕ) → q < n → k ≤ q → g q ≡ h q) → xs ≡ table n h
+filled-all {n} {k} {f} {g} {xs} s h same old =
+    ext-getD 0 xs (table n h) (s .long ∙ sym (length-table n h))
+    (λ q l.
+    let inside : q < n = omega (arith, l, s .long) in
+    ⊎-elim (λ under. s .done q under ∙ same q inside under) (λ over. s .rest q over inside ∙ old q inside over) (lt-or-le q k)
+    ∙ sym (getD-table n h 0 q inside))

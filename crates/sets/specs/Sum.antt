@@ -1,12 +1,14 @@
 -- Sums over a marked set of the numbers below a bound. Assumes nothing.
 use mathlib.Core.Path.{_≡_, refl, sym}
 use mathlib.Core.Bool.{Bool, true, false}
+use mathlib.Core.Logic.{⊎-elim}
 use Prim.Native.Nat.{ℕ, zero, suc, _+_, _*_, _≤_, _<_}
 use native.Mathlib.Nat.{le-refl, le-step, le-antisymm, le-of-eq, add-le-add, mul-zero, zero-mul, suc-mul, mul-add}
+use native.Mathlib.Nat.{not-suc-le-zero, le-of-suc-le-suc, eq-or-lt-of-le}
 use native.Mathlib.Numerals.{add-one}
 use native.Mathlib.Omega.{arith}
 use lib.Dec.{T}
-use Rattle.sets.specs.Choice.{pick}
+use Rattle.sets.specs.Choice.{pick, T→true, refuted→false}
 use Rattle.sets.specs.Bounded.{Subset}
 
 -- ---- the sum of f over the numbers below n that are in A
@@ -50,6 +52,27 @@ sum-mono zero B A f g w h = le-refl 0
 sum-mono (suc n) B A f g w h =
     add-le-add (sum-mono n B A f g (λ j l. w j (le-step l)) (λ j l. h j (le-step l)))
     (term-mono (B n) (A n) (f n) (g n) (w n (le-refl (suc n))) (h n (le-refl (suc n))))
+
+-- a set that lacks a member of the other lacks its term
+pub sum-less : (n : ℕ) (B A : ℕ → Bool) (f : ℕ → ℕ) → Subset n B A → (k : ℕ) → k < n → T (A k) → (T (B k) → ⊥)
+    → sum n B f + f k ≤ sum n A f
+unfolding sum
+sum-less zero B A f w k h a b = absurd (not-suc-le-zero h)
+sum-less (suc n) B A f w k h a b =
+    ⊎-elim at-n (λ l. let below = sum-less n B A f under k l a b in omega (arith, below, step)) (eq-or-lt-of-le (le-of-suc-le-suc h))
+  where
+    under : Subset n B A
+    under j l = w j (le-step l)
+
+    step : pick (B n) (f n) 0 ≤ pick (A n) (f n) 0
+    step = term-mono (B n) (A n) (f n) (f n) (w n (le-refl (suc n))) (λ t. le-refl (f n))
+
+    at-n : k ≡ n → sum (suc n) B f + f k ≤ sum (suc n) A f
+    at-n e =
+        let a′ = T→true (A n) (rw e at a) in
+        let b′ = refuted→false (B n) (rw e at b) in
+        let below = sum-mono n B A f f under (λ j l t. le-refl (f j)) in
+        rw (a′, b′, e) (omega (arith, below))
 
 -- equal terms give equal sums
 pub sum-cong : (n : ℕ) (A : ℕ → Bool) (f g : ℕ → ℕ) → ((j : ℕ) → j < n → f j ≡ g j) → sum n A f ≡ sum n A g

@@ -9,7 +9,7 @@ use Rattle.taskset.specs.declared.Task.{Task}
 use Rattle.taskset.specs.declared.Rule.{Rule}
 use Rattle.taskset.specs.declared.Call.{Call}
 use Rattle.taskset.specs.declared.Call.the-variants.{AddTask, AddRule}
-use Rattle.taskset.specs.Refusals.{maxTasks, maxRules, InRanges, Between, refusalBy}
+use Rattle.taskset.specs.Refusals.{maxTasks, maxRules, sectionsBy, InRanges, Between, refusalBy}
 
 pub record Lists : Type 0 where
   pub tasks : List Task
@@ -39,7 +39,7 @@ heard l (c ∷ cs) = heard (hear l c) cs
 
 -- an entry of a list, all zeros past its end
 abbrev pub blankTask : Task
-blankTask = record { period = 0; execution = 0; deadline = 0; jitter = 0; blocking = 0 }
+blankTask = record { period = 0; execution = 0; deadline = 0; jitter = 0; sections = sectionsBy (λ k. 0) }
 
 abbrev pub blankRule : Rule
 blankRule = record { higher = record { 0 = 0 }; lower = record { 0 = 0 } }

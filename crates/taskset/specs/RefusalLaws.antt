@@ -5,16 +5,19 @@ use mathlib.Core.Bool.{Bool, true, false}
 use mathlib.Core.Logic.{_↔_, Iff·trans, Iff·and}
 use mathlib.Core.List.{List, [], _∷_, _++_}
 use Prim.Native.Nat.{ℕ, zero, suc, _-_, _≤_, _<_}
-use native.Mathlib.Nat.{suc-ne-zero}
+use native.Mathlib.Nat.{suc-ne-zero, le-trans}
 use native.Mathlib.Omega.{arith}
 use lib.Dec.{T, ltb, leb, eqb, ltb→lt, leb→le, eqb→eq}
 use borrow.Author.Tests.{ltb-false, leb-false, eqb-false, le-ltb, le-leb, lt-leb, ne-eqb, eq-eqb}
 use Rattle.sets.specs.Choice.{pick, pick-le, true→T, or-false-left, or-false-right}
+use Rattle.sets.specs.Bounded.{every, all-at}
+use Rattle.sets.specs.Maximum.{maximum-at, maximum-le}
 use Rattle.taskset.specs.declared.Task.{Task}
 use Rattle.taskset.specs.declared.Rule.{Rule}
 use Rattle.taskset.specs.declared.Call.{Call}
 use Rattle.taskset.specs.declared.Call.the-variants.{AddTask, AddRule}
 use Rattle.taskset.specs.Refusals.{maxTasks, maxRules, maxPeriod, InRanges, Between, Acceptable, Room}
+use Rattle.taskset.specs.Refusals.{resources, sectionsBy, sectionOn, longestSection, isIndependent}
 use Rattle.taskset.specs.Refusals.{Refusal, fullBy, firstOf, outside, rowRefusals, indexRefusals}
 use Rattle.taskset.specs.Refusals.{refusals, refusalBy, entryFits}
 
@@ -45,6 +48,33 @@ inside low high x = (
   λ h. rw (le-ltb x low (h .0), le-ltb high x (h .1)),
 )
 
+-- equal lengths are equal sections
+pub sections-same : (f g : ℕ → ℕ) → ((k : ℕ) → k < resources → f k ≡ g k) → sectionsBy f ≡ sectionsBy g
+sections-same f g same i =
+    record {
+      r0 = same 0 (omega arith) i;
+      r1 = same 1 (omega arith) i;
+      r2 = same 2 (omega arith) i;
+      r3 = same 3 (omega arith) i;
+      r4 = same 4 (omega arith) i;
+      r5 = same 5 (omega arith) i;
+      r6 = same 6 (omega arith) i;
+      r7 = same 7 (omega arith) i;
+    }
+
+-- no section is longer than c exactly when the longest is not
+pub longest-exactly : (t : Task) (c : ℕ) → (longestSection t ≤ c) ↔ ((k : ℕ) → k < resources → sectionOn t k ≤ c)
+unfolding longestSection
+longest-exactly t c = (
+  λ h k l. le-trans (maximum-at resources every (sectionOn t) k l tt) h,
+  λ each. maximum-le resources every (sectionOn t) c (λ k l s. each k l),
+)
+
+-- a task that uses none has no section on any
+pub independent-at : (t : Task) → T (isIndependent t) → (k : ℕ) → k < resources → sectionOn t k ≡ 0
+unfolding isIndependent
+independent-at t h k known = eqb→eq (sectionOn t k) 0 (all-at resources (λ q. eqb (sectionOn t q) 0) h k known)
+
 row-numbered : (t : Task) → Numbered (rowRefusals t)
 unfolding rowRefusals
 row-numbered t = (tt, (tt, (tt, (tt, (tt, tt)))))
@@ -61,7 +91,7 @@ row-exactly t = (
         execution = inside 1 (t .period) (t .execution) .0 c;
         deadline = inside 1 (t .period) (t .deadline) .0 d;
         jitter = omega arith;
-        blocking = inside 0 (t .period) (t .blocking) .0 b .1;
+        sections = longest-exactly t (t .execution) .0 (inside 0 (t .execution) (longestSection t) .0 b .1);
       },
   λ r.
       rw (
@@ -69,7 +99,7 @@ row-exactly t = (
         inside 1 (t .period) (t .execution) .1 (r .execution),
         inside 1 (t .period) (t .deadline) .1 (r .deadline),
         inside 0 (t .period - 1) (t .jitter) .1 (omega arith),
-        inside 0 (t .period) (t .blocking) .1 (omega arith),
+        inside 0 (t .execution) (longestSection t) .1 (omega arith, longest-exactly t (t .execution) .1 (r .sections)),
       ),
 )
 

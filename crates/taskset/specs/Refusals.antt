@@ -1,11 +1,15 @@
--- Document 01, "The sheet" and "Refusals": sizes, the ranges of a row, and which refusals an adding call meets.
--- Assumes nothing.
+-- Document 01, "The sheet" and "Refusals": sizes, the ranges of a row with the sections of document 02, (c),
+-- and which refusals an adding call meets. Assumes nothing.
 use mathlib.Core.Path.{_≡_}
 use mathlib.Core.Bool.{Bool, true, false, _||_}
 use mathlib.Core.List.{List, [], _∷_, _++_}
 use Prim.Native.Nat.{ℕ, _-_, _≤_, _<_}
 use lib.Dec.{leb, ltb, eqb}
+use lib.ListN.{getD}
 use Rattle.sets.specs.Choice.{pick}
+use Rattle.sets.specs.Bounded.{every, all}
+use Rattle.sets.specs.Maximum.{maximum}
+use Rattle.taskset.specs.declared.Sections.{Sections}
 use Rattle.taskset.specs.declared.Task.{Task}
 use Rattle.taskset.specs.declared.Rule.{Rule}
 use Rattle.taskset.specs.declared.Call.{Call}
@@ -20,6 +24,30 @@ maxRules = 128
 
 abbrev pub maxPeriod : ℕ
 maxPeriod = 1_000_000
+
+-- ---- document 02, (c): critical sections
+
+-- the resources, which are numbered from 0
+abbrev pub resources : ℕ
+resources = 8
+
+-- sections of these lengths, and the lengths of sections, one for each resource
+abbrev pub sectionsBy : (ℕ → ℕ) → Sections
+sectionsBy f = record { r0 = f 0; r1 = f 1; r2 = f 2; r3 = f 3; r4 = f 4; r5 = f 5; r6 = f 6; r7 = f 7 }
+
+abbrev pub sectionWords : Sections → List ℕ
+sectionWords s = s .r0 ∷ s .r1 ∷ s .r2 ∷ s .r3 ∷ s .r4 ∷ s .r5 ∷ s .r6 ∷ s .r7 ∷ []
+
+-- the length of a task's section on a resource, 0 where it does not use it; and the longest
+unfoldable pub sectionOn : Task → ℕ → ℕ
+sectionOn t k = getD (sectionWords (t .sections)) k 0
+
+unfoldable pub longestSection : Task → ℕ
+longestSection t = maximum resources every (sectionOn t)
+
+-- a task that uses no resource
+unfoldable pub isIndependent : Task → Bool
+isIndependent t = all resources (λ k. eqb (sectionOn t k) 0)
 
 -- ---- refusals
 
@@ -59,7 +87,7 @@ rowRefusals t =
     ∷ entryBy 2 (outside 1 (t .period) (t .execution))
     ∷ entryBy 3 (outside 1 (t .period) (t .deadline))
     ∷ entryBy 4 (outside 0 (t .period - 1) (t .jitter))
-    ∷ entryBy 5 (outside 0 (t .period) (t .blocking))
+    ∷ entryBy 5 (outside 0 (t .execution) (longestSection t))
     ∷ []
 
 -- a rule's two task indices, in a set of n tasks
@@ -89,7 +117,7 @@ pub record InRanges (t : Task) : Type 0 where
   pub execution : (1 ≤ t .execution) × (t .execution ≤ t .period)
   pub deadline : (1 ≤ t .deadline) × (t .deadline ≤ t .period)
   pub jitter : t .jitter < t .period
-  pub blocking : t .blocking ≤ t .period
+  pub sections : (k : ℕ) → k < resources → sectionOn t k ≤ t .execution
 
 pub record Between (n : ℕ) (r : Rule) : Type 0 where
   pub apart : r .higher .0 ≡ r .lower .0 → ⊥

@@ -1,16 +1,25 @@
--- Rows and rules as words, in the order of their text lines: C, T, D, J, B and u, l. Everything that reads or writes a row or a
--- rule as numbers goes through these two codecs. Assumes nothing.
+-- Rows and rules as words, in the order of their text lines: C, T, D, J and the sections' lengths; u, l. Everything that reads or
+-- writes a row or a rule as numbers goes through these two codecs. Assumes nothing.
 use mathlib.Core.List.{List, [], _∷_}
-use Prim.Native.Nat.{ℕ, _*_}
+use Prim.Native.Nat.{ℕ, _+_, _*_}
 use lib.ListN.{getD}
 use Rattle.sets.specs.Entries.{Codec, entriesIn}
+use Rattle.taskset.specs.declared.Sections.{Sections}
 use Rattle.taskset.specs.declared.Task.{Task}
 use Rattle.taskset.specs.declared.Rule.{Rule}
-use Rattle.taskset.specs.Refusals.{maxTasks, maxRules}
+use Rattle.taskset.specs.Refusals.{maxTasks, maxRules, resources, sectionsBy, sectionWords}
 use Rattle.taskset.specs.Model.{Lists}
 
+-- the words of a row before its sections
+abbrev pub times : ℕ
+times = 4
+
 abbrev pub taskWords : Task → List ℕ
-taskWords t = t .execution ∷ t .period ∷ t .deadline ∷ t .jitter ∷ t .blocking ∷ []
+taskWords t = t .execution ∷ t .period ∷ t .deadline ∷ t .jitter ∷ sectionWords (t .sections)
+
+-- the sections that stand from a position on
+abbrev pub sectionsAt : ℕ → List ℕ → Sections
+sectionsAt at ws = sectionsBy (λ k. getD ws (at + k) 0)
 
 abbrev pub taskOf : List ℕ → Task
 taskOf ws =
@@ -19,7 +28,7 @@ taskOf ws =
       period = getD ws 1 0;
       deadline = getD ws 2 0;
       jitter = getD ws 3 0;
-      blocking = getD ws 4 0;
+      sections = sectionsAt times ws;
     }
 
 abbrev pub ruleWords : Rule → List ℕ
@@ -30,7 +39,7 @@ ruleOf ws = record { higher = record { 0 = getD ws 0 0 }; lower = record { 0 = g
 
 -- how many words they have
 abbrev pub taskSize : ℕ
-taskSize = 5
+taskSize = times + resources
 
 abbrev pub ruleSize : ℕ
 ruleSize = 2

@@ -7,9 +7,11 @@ ghost use mathlib.Core.Bool.{true};
 ghost use mathlib.Core.Logic.{_↔_};
 ghost use Rattle.sets.specs.Bounded.{all};
 ghost use Rattle.taskset.specs.declared.Call.the-variants.{AddTask, AddRule};
-ghost use Rattle.taskset.specs.Refusals.{maxTasks, maxRules, firstOf, outside, rowRefusals, indexRefusals, refusalBy};
+ghost use Rattle.taskset.specs.Refusals.{maxTasks, maxRules, sectionOn, longestSection, isIndependent};
+ghost use Rattle.taskset.specs.Refusals.{firstOf, outside, rowRefusals, indexRefusals, refusalBy};
 ghost use Rattle.taskset.specs.Model.{blankTask, blankRule};
 ghost use Rattle.taskset.specs.Adding.{freshSet, isBlankTask, isBlankRule, taskFits, ruleFits, entry, isMade, add, Made};
+use sets::larger;
 pub use words::MAX_RULE_WORDS;
 pub use words::MAX_TASK_WORDS;
 pub use words::RULE_WORDS;
@@ -19,6 +21,7 @@ pub use words::put_rule;
 pub use words::put_task;
 pub use words::rule_from;
 pub use words::rule_in;
+pub use words::section_in;
 pub use words::task_from;
 pub use words::task_in;
 pub use words::write_words;
@@ -29,11 +32,25 @@ pub const MAX_RULES: usize = 128;
 
 pub const MAX_PERIOD: u64 = 1000000;
 
+pub const RESOURCES: usize = 8;
+
 // A task's place in its set, counted from 0 in the order of adding.
 pub struct TaskIndex(pub usize);
 
 // A priority level: 0 is the highest.
 pub struct PriorityLevel(pub usize);
+
+// The length of a task's critical section on each of the resources; 0 where it does not use the resource.
+pub struct Sections {
+    pub r0: u64,
+    pub r1: u64,
+    pub r2: u64,
+    pub r3: u64,
+    pub r4: u64,
+    pub r5: u64,
+    pub r6: u64,
+    pub r7: u64,
+}
 
 // A row, in whole microseconds.
 pub struct Task {
@@ -41,7 +58,7 @@ pub struct Task {
     pub execution: u64,
     pub deadline: u64,
     pub jitter: u64,
-    pub blocking: u64,
+    pub sections: Sections,
 }
 
 // The task `higher` has a higher priority than the task `lower`.
@@ -56,7 +73,16 @@ const BLANK_TASK: Task = Task {
     execution: 0,
     deadline: 0,
     jitter: 0,
-    blocking: 0,
+    sections: Sections {
+        r0: 0,
+        r1: 0,
+        r2: 0,
+        r3: 0,
+        r4: 0,
+        r5: 0,
+        r6: 0,
+        r7: 0,
+    },
 };
 
 const BLANK_RULE: Rule = Rule {
@@ -84,6 +110,46 @@ pub struct Added {
     pub set: TaskSet,
 }
 
+// The length of a task's section on a resource.
+fn section_on(t: Task, resource: usize) -> u64
+    ensures { λ r. ⌜ r ≡ sectionOn t resource ⌝ }
+{
+    let s = t.sections;
+    match resource {
+        0 => s.r0,
+        1 => s.r1,
+        2 => s.r2,
+        3 => s.r3,
+        4 => s.r4,
+        5 => s.r5,
+        6 => s.r6,
+        7 => s.r7,
+        _ => 0,
+    }
+}
+
+// The longest of a task's sections.
+fn longest_section(t: Task) -> u64
+    ensures { λ r. ⌜ r ≡ longestSection t ⌝ }
+{
+    let mut longest = 0;
+    let mut k = 0;
+    while k < RESOURCES {
+        longest = larger(longest, section_on(t, k));
+        k += 1;
+    }
+    longest
+}
+
+// A task that uses no resource.
+pub fn is_independent(t: Task) -> bool
+    ensures { λ r. ⌜ r ≡ isIndependent t ⌝ }
+{
+    let s = t.sections;
+    let upper = (s.r7 == 0) & (s.r6 == 0) & (s.r5 == 0) & (s.r4 == 0);
+    upper & (s.r3 == 0) & (s.r2 == 0) & (s.r1 == 0) & (s.r0 == 0)
+}
+
 // x is not one of low to high.
 fn outside(low: u64, high: u64, x: u64) -> bool
     ensures { λ r. ⌜ r ≡ outside low high x ⌝ }
@@ -108,7 +174,7 @@ fn row_refusal(t: Task) -> u64
     if outside(0, period - 1, t.jitter) {
         return 4;
     }
-    if outside(0, period, t.blocking) {
+    if outside(0, t.execution, longest_section(t)) {
         return 5;
     }
     0
@@ -161,7 +227,7 @@ pub fn refusal(n: usize, m: usize, call: Call) -> u64
 fn is_blank_task(t: Task) -> bool
     ensures { λ r. ⌜ r ≡ isBlankTask t ⌝ }
 {
-    (t.period == 0) & (t.execution == 0) & (t.deadline == 0) & (t.jitter == 0) & (t.blocking == 0)
+    (t.period == 0) & (t.execution == 0) & (t.deadline == 0) & (t.jitter == 0) & is_independent(t)
 }
 
 fn is_blank_rule(r: Rule) -> bool

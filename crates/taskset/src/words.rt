@@ -1,32 +1,53 @@
-// Rows and rules as words, in the order of their text lines: C, T, D, J, B and u, l.
+// Rows and rules as words, in the order of their text lines: C, T, D, J and the sections' lengths; u, l.
 
 ghost use mathlib.Core.Path.{_≡_};
 ghost use Prim.Native.Nat.{_+_, _*_, _≤_, _<_};
 ghost use lib.ListN.{length, take, drop};
 ghost use lib.Seq.{sets};
 ghost use Rattle.sets.specs.Pad.{pad};
-ghost use Rattle.taskset.specs.Refusals.{maxTasks, maxRules};
+ghost use Rattle.taskset.specs.Refusals.{maxTasks, maxRules, resources, sectionWords, sectionOn};
 ghost use Rattle.taskset.specs.Model.{blankTask, blankRule, taskAt, ruleAt};
 ghost use Rattle.taskset.specs.Adding.{holding, lists};
-ghost use Rattle.taskset.specs.Words.{taskSize, taskWords, taskOf, ruleSize, ruleWords, ruleOf};
+ghost use Rattle.taskset.specs.Words.{taskSize, sectionsAt, taskWords, taskOf, ruleSize, ruleWords, ruleOf};
 ghost use Rattle.taskset.specs.Words.{tasksIn, rulesIn, listsIn, maxTaskWords, maxRuleWords};
 use crate::BLANK_RULE;
 use crate::BLANK_TASK;
 use crate::MAX_RULES;
 use crate::MAX_TASKS;
+use crate::RESOURCES;
 use crate::Rule;
+use crate::Sections;
 use crate::Task;
 use crate::TaskIndex;
 use crate::TaskSet;
 
-// The words of a row and of a rule, and the room that is enough for those of every set.
-pub const TASK_WORDS: usize = 5;
+// The words of a row before its sections, of a row and of a rule, and the room that is enough for those of every set.
+const TIMES: usize = 4;
+
+pub const TASK_WORDS: usize = TIMES + RESOURCES;
 
 pub const RULE_WORDS: usize = 2;
 
 pub const MAX_TASK_WORDS: usize = TASK_WORDS * MAX_TASKS;
 
 pub const MAX_RULE_WORDS: usize = RULE_WORDS * MAX_RULES;
+
+// The sections that stand in words from a position on.
+fn sections_from(words: &[u64], at: usize) -> Sections
+    requires { ⌜ at + resources ≤ length (now words) ⌝ }
+    ensures { λ r. ⌜ r ≡ sectionsAt at (now (words .entry)) ⌝ }
+{
+    Sections {
+        r0: words[at],
+        r1: words[at + 1],
+        r2: words[at + 2],
+        r3: words[at + 3],
+        r4: words[at + 4],
+        r5: words[at + 5],
+        r6: words[at + 6],
+        r7: words[at + 7],
+    }
+}
 
 // The row that stands in words from a position on.
 pub fn task_from(words: &[u64], at: usize) -> Task
@@ -38,7 +59,7 @@ pub fn task_from(words: &[u64], at: usize) -> Task
         period: words[at + 1],
         deadline: words[at + 2],
         jitter: words[at + 3],
-        blocking: words[at + 4],
+        sections: sections_from(words, at + TIMES),
     }
 }
 
@@ -50,6 +71,15 @@ pub fn rule_from(words: &[u64], at: usize) -> Rule
         higher: TaskIndex(words[at] as usize),
         lower: TaskIndex(words[at + 1] as usize),
     }
+}
+
+// The length of row i's section on a resource.
+pub fn section_in(rows: &[u64], i: usize, resource: usize) -> u64
+    requires { ⌜ i < length (tasksIn (now rows)) ⌝ }
+    requires { ⌜ resource < resources ⌝ }
+    ensures { λ r. ⌜ r ≡ sectionOn (taskAt (tasksIn (now (rows .entry))) i) resource ⌝ }
+{
+    rows[TASK_WORDS * i + TIMES + resource]
 }
 
 // Row i of words that hold rows, and rule k of words that hold rules.
@@ -67,6 +97,21 @@ pub fn rule_in(rules: &[u64], k: usize) -> Rule
     rule_from(rules, RULE_WORDS * k)
 }
 
+// Writes sections into words from a position on.
+fn put_sections(words: &mut [u64], at: usize, s: Sections)
+    requires { ⌜ at + resources ≤ length (now words) ⌝ }
+    ensures { λ _. ⌜ now (words .exit) ≡ sets (now (words .entry)) at (sectionWords s) ⌝ }
+{
+    words[at] = s.r0;
+    words[at + 1] = s.r1;
+    words[at + 2] = s.r2;
+    words[at + 3] = s.r3;
+    words[at + 4] = s.r4;
+    words[at + 5] = s.r5;
+    words[at + 6] = s.r6;
+    words[at + 7] = s.r7;
+}
+
 // Writes a row into words from a position on.
 pub fn put_task(words: &mut [u64], at: usize, t: Task)
     requires { ⌜ at + taskSize ≤ length (now words) ⌝ }
@@ -76,7 +121,7 @@ pub fn put_task(words: &mut [u64], at: usize, t: Task)
     words[at + 1] = t.period;
     words[at + 2] = t.deadline;
     words[at + 3] = t.jitter;
-    words[at + 4] = t.blocking;
+    put_sections(words, at + TIMES, t.sections);
 }
 
 pub fn put_rule(words: &mut [u64], at: usize, r: Rule)

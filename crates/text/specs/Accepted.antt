@@ -13,7 +13,6 @@ use borrow.Author.Tests.{ne-eqb, eqb-true}
 use Rattle.sets.specs.Choice.{T→true, true→T, and-left, and-right}
 use Rattle.lines.specs.Decimal.{tab, maxDigits, isDigit, areDigits, value, isNumber, decimal}
 use Rattle.lines.specs.Parts.{parts, join}
-use Rattle.lines.specs.Reading.{number-good}
 use Rattle.lines.specs.ReadBack.{decimal-digits, read-back, number-exactly}
 use Rattle.lines.specs.PartsLaws.{join-parts, Clear, AllClear, parts-join}
 use Rattle.taskset.specs.declared.Task.{Task}
@@ -41,7 +40,7 @@ numbers-read : (fs : List (List ℕ)) → T (areNumbers fs) → (fs ≡ map deci
 unfolding areNumbers
 numbers-read [] t = (refl, tt)
 numbers-read (f ∷ fs) t =
-    let first = number-exactly f (value f) .0 (rw (T→true (isNumber f) (and-left (isNumber f) (areNumbers fs) t))) in
+    let first = number-exactly f (value f) .0 (T→true (isNumber f) (and-left (isNumber f) (areNumbers fs) t), refl) in
     let rest = numbers-read fs (and-right (isNumber f) (areNumbers fs) t) in
     (ap₂ _∷_ (first .0) (rest .0), (first .1, rest .1))
 
@@ -50,7 +49,7 @@ numbers-written : (ns : List ℕ) → Short ns → (areNumbers (map decimal ns) 
 unfolding areNumbers
 numbers-written [] s = (refl, refl)
 numbers-written (n ∷ ns) s =
-    let first = number-good (decimal n) n (read-back n (s .0)) in
+    let first = read-back n (s .0) in
     let rest = numbers-written ns (s .1) in
     (rw (first .0) (rest .0), ap₂ _∷_ (first .1) (rest .1))
 

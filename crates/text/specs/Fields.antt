@@ -4,13 +4,15 @@ use mathlib.Core.Bool.{true, false, _&&_, and-assoc}
 use mathlib.Core.List.{List, [], _∷_, _++_, map, append-nil, map-append}
 use Prim.Native.Nat.{ℕ, _+_, _≤_, _<_}
 use native.Mathlib.Omega.{arith}
-use lib.ListN.{length, set, replicate, length-append, length-map}
+use lib.ListN.{length, drop, set, replicate, length-append, length-map}
 use lib.Seq.{append-snoc}
 use borrow.Author.Tests.{le-leb, lt-leb}
 use Rattle.sets.specs.Choice.{and-false}
 use Rattle.sets.specs.Pad.{pad, set-pad}
 use Rattle.lines.specs.declared.Number.the-variants.{Value, Malformed}
-use Rattle.lines.specs.Decimal.{value, isNumber, numberIn}
+use Rattle.lines.specs.Decimal.{tab, value, isNumber, numberFrom}
+use Rattle.lines.specs.Parts.{parts, upTo}
+use Rattle.lines.specs.PartsLaws.{part-first, part-last, part-step}
 use Rattle.lines.specs.Reading.{number-good, number-bad}
 use Rattle.taskset.specs.Words.{taskSize}
 use Rattle.text.specs.declared.Numbers.{Numbers}
@@ -46,18 +48,18 @@ module _ {fields rest : List (List ℕ)} {values : List ℕ} {count : ℕ} (h : 
 
   module _ {f : List ℕ} {more : List (List ℕ)} (next : rest ≡ f ∷ more) where
     -- the next field is no number
-    pub numbers-bad : numberIn f ≡ Malformed → noNumbers ≡ numbersIn fields
+    numbers-bad : isNumber f ≡ false → noNumbers ≡ numbersIn fields
     unfolding areNumbers
     numbers-bad e =
         let same = ap areNumbers (sym (h .whole)) ∙ numbers-append (h .done) rest in
-        let bad : areNumbers fields ≡ false = same ∙ rw (next, h .good, number-bad f e) in
+        let bad : areNumbers fields ≡ false = same ∙ rw (next, h .good, e) in
         rw bad
 
     -- the next field is a number
-    pub one-read : {v : ℕ} → numberIn f ≡ Value v → count < taskSize → FieldsRead fields more (set values count v) (count + 1)
+    one-read : {v : ℕ} → isNumber f ≡ true → value f ≡ v → count < taskSize
+        → FieldsRead fields more (set values count v) (count + 1)
     unfolding areNumbers
-    one-read {v} e room =
-        let (good, is) = number-good f v e in
+    one-read {v} good is room =
         let long : length (map value (h .done)) ≡ count = length-map (h .done) value ∙ sym (h .counted) in
         record {
           done = h .done ++ f ∷ [];
@@ -72,10 +74,35 @@ module _ {fields rest : List (List ℕ)} {values : List ℕ} {count : ℕ} (h : 
         }
 
 -- all fields are read
-pub numbers-all : {fields : List (List ℕ)} {values : List ℕ} {count : ℕ} → FieldsRead fields [] values count
+numbers-all : {fields : List (List ℕ)} {values : List ℕ} {count : ℕ} → FieldsRead fields [] values count
     → record { values = values; count = count } ≡ numbersIn fields
 numbers-all {fields} h =
     let all = sym (append-nil (h .done)) ∙ h .whole in
     let good : areNumbers fields ≡ true = ap areNumbers (sym all) ∙ h .good in
     let long : length fields ≤ taskSize = omega (arith, h .few, h .counted, ap length all) in
     rw (good, le-leb (length fields) taskSize long, h .held, h .counted, all)
+
+-- ---- the field at a position of a line, as it was read
+
+module _ (line : List ℕ) (at : ℕ) {fields : List (List ℕ)} {values : List ℕ} {count : ℕ}
+    (h : FieldsRead fields (parts tab (drop at line)) values count) where
+  abbrev field : List ℕ
+  field = upTo tab (drop at line)
+
+  pub field-bad : numberFrom at field ≡ Malformed → noNumbers ≡ numbersIn fields
+  field-bad e = numbers-bad h (part-first tab line at field refl) (number-bad at field e)
+
+  module _ {v end : ℕ} (e : numberFrom at field ≡ Value v end) (room : count < taskSize) where
+    good : (isNumber field ≡ true) × (value field ≡ v) × (at + length field ≡ end)
+    good = number-good at field v end e
+
+    held : {more : List (List ℕ)} → parts tab (drop at line) ≡ field ∷ more → FieldsRead fields more (set values count v) (count + 1)
+    held next = one-read h next (good .0) (good .1) room
+
+    -- it is the last
+    pub field-last : length line ≤ end → record { values = set values count v; count = count + 1 } ≡ numbersIn fields
+    field-last all = numbers-all (held (part-last tab line at field refl (omega (arith, good .2))))
+
+    -- or others follow
+    pub field-next : end < length line → FieldsRead fields (parts tab (drop (end + 1) line)) (set values count v) (count + 1)
+    field-next more = rw (← good .2) (held (part-step tab line at field refl (omega (arith, good .2))))

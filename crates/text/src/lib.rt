@@ -10,7 +10,6 @@ ghost use Rattle.text.specs.Text.{lineIn, refusedAt, reading, countsOf, 
 use lines::Number;
 use lines::TAB;
 use lines::reader;
-use lines::stretch;
 use taskset::Call;
 use taskset::MAX_RULE_WORDS;
 use taskset::MAX_TASK_WORDS;
@@ -65,8 +64,7 @@ fn read_numbers(line: &[u8], from: usize) -> Numbers
     let mut count = 0;
     let mut at = from;
     while count < TASK_WORDS {
-        let field = stretch(line, at, TAB);
-        let Number::Value(value) = lines::read_number(field) else {
+        let Number::Value(value, end) = lines::number_from(line, at) else {
             return Numbers {
                 values: none,
                 count: 0,
@@ -74,11 +72,10 @@ fn read_numbers(line: &[u8], from: usize) -> Numbers
         };
         values[count] = value;
         count += 1;
-        at += field.len();
-        if line.len() <= at {
+        if line.len() <= end {
             return Numbers { values, count };
         }
-        at += 1;
+        at = end + 1;
     }
     Numbers {
         values: none,

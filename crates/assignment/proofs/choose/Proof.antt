@@ -1,10 +1,11 @@
 -- `assignment::choose` meets its contract: none of the tasks tried so far may take the level. Assumes nothing.
 use mathlib.Core.Path.{_≡_, sym, ap, _∙_}
 use mathlib.Core.Bool.{true}
-use Prim.Native.Nat.{ℕ, _-_, _/_, _≤_}
+use Prim.Native.Nat.{ℕ, _+_, _-_, _/_, _≤_, _<_}
 use native.Mathlib.Omega.{arith}
 use borrow.Author.Needs.{needs}
 use lib.ListN.{length}
+use Rattle.sets.specs.Choice.{true→T}
 use Rattle.sets.specs.Bounded.{without, greatest}
 use Rattle.sets.specs.Marks.{marked}
 use Rattle.taskset.specs.Words.{taskSize, tasksIn}
@@ -17,13 +18,13 @@ use Rattle.assignment.proofs.choose.Statement.{statement}
 use Rattle.assignment.proofs.choose.Tie as tie
 
 abbrev Inv-loop : tie.InvT-loop
-Inv-loop rows left ready count tried₀ tried =
+Inv-loop rows left blocking ready count tried₀ tried =
     let n = length (tasksIn rows) in
     let w = within n (candidate (responseAt (tasksIn rows)) (marked ready) (marked left)) in
     (tried ≤ count) × (greatest (count - tried) w ≡ greatest n w)
 
 abbrev μ-loop : tie.MeasureT-loop
-μ-loop rows left ready count tried₀ tried = count - tried
+μ-loop rows left blocking ready count tried₀ tried = count - tried
 
 abbrev test : tie.Start Inv-loop μ-loop → Test
 test s = responseAt (tasksIn (s .args .rows .now))
@@ -52,16 +53,21 @@ loop-holds c =
     (omega arith, ap (λ (m : ℕ). greatest m (within n (candidates s))) (sym none))
 
 add-tried : tie.Need-add-tried Inv-loop μ-loop
-add-tried c = let at = c .before in omega (arith, at .before .before .pre .few, long (at .before .before))
+add-tried c = let at = c .before in omega (arith, at .before .before .pre .0 .few, long (at .before .before))
 
 sub-i : tie.Need-sub-i Inv-loop μ-loop
 sub-i c = search needs
 
 array-read-if1 : tie.Need-array-read-if1 Inv-loop μ-loop
-array-read-if1 c = let at = c .before in omega (arith, at .before .before .pre .few, long (at .before .before))
+array-read-if1 c = let at = c .before in omega (arith, at .before .before .pre .0 .few, long (at .before .before))
 
 level-response-requires : tie.Need-level-response-requires Inv-loop μ-loop
-level-response-requires c κs = let at = c .before .before in (at .before .before .pre, omega (arith, long (at .before .before)))
+level-response-requires c κs =
+    let at = c .before .before in
+    let s = at .before .before in
+    let i = length (s .args .rows .now) / taskSize - (at .loop .tried + 1) in
+    let h : i < length (tasksIn (s .args .rows .now)) = omega (arith, long s) in
+    (s .pre .0, (h, s .pre .1 i h (true→T _ (c .if1 .taken))))
 
 enum-known-response : tie.Need-enum-known-response Inv-loop μ-loop
 enum-known-response c = search needs

@@ -13,10 +13,10 @@ use Rattle.assignment.proofs.choose_any.Statement.{statement}
 use Rattle.assignment.proofs.choose_any.Tie as tie
 
 abbrev Inv-loop : tie.InvT-loop
-Inv-loop rows other left ready known j₀ j = j ≤ length (tasksIn rows)
+Inv-loop rows other left blocking ready known j₀ j = j ≤ length (tasksIn rows)
 
 abbrev μ-loop : tie.MeasureT-loop
-μ-loop rows other left ready known j₀ j = j
+μ-loop rows other left blocking ready known j₀ j = j
 
 -- the task of a turn is one that the marks have
 inside : (c : tie.In-loop Inv-loop μ-loop) → c .before .loop .j - 1 < maxTasks
@@ -38,7 +38,7 @@ returns : tie.Need-returns Inv-loop μ-loop
 returns c =
     let at = c .before .before in
     let s = at .before .before in
-    known-any (bare (tasksIn (s .args .rows .now))) (marked (s .args .t2)) (marked (s .args .left)) (marked (s .args .t3)) (s .pre .1 .0)
+    known-any (bare (tasksIn (s .args .rows .now))) (marked (s .args .t2)) (marked (s .args .left)) (marked (s .args .t3)) (s .pre .1 .1 .0)
     (at .loop .j - 1) (omega (arith, at .loop .inv)) (c .if1 .taken)
 
 loop-less : tie.Need-loop-less Inv-loop μ-loop
@@ -48,7 +48,7 @@ loop-again : tie.Need-loop-again Inv-loop μ-loop
 loop-again c = omega (arith, c .before .before .loop .inv)
 
 choose-last-requires : tie.Need-choose-last-requires Inv-loop μ-loop
-choose-last-requires c κs = let s = c .before .before .before in (s .pre .0, s .pre .1 .1)
+choose-last-requires c κs = let s = c .before .before .before in (s .pre .0, (s .pre .1 .0, s .pre .1 .1 .1))
 
 returns-2 : tie.Need-returns-2 Inv-loop μ-loop
 returns-2 c = c .choose-last .ensures

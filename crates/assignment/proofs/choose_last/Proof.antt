@@ -19,11 +19,11 @@ use Rattle.assignment.proofs.choose_last.Statement.{statement}
 use Rattle.assignment.proofs.choose_last.Tie as tie
 
 abbrev Inv-loop : tie.InvT-loop
-Inv-loop rows ready other left level₀ level =
+Inv-loop rows blocking ready other left level₀ level =
     (level ≤ length (tasksIn rows)) × NoneFrom (length (tasksIn rows)) (other .order) (marked left) level
 
 abbrev μ-loop : tie.MeasureT-loop
-μ-loop rows ready other left level₀ level = level
+μ-loop rows blocking ready other left level₀ level = level
 
 -- where a turn began
 abbrev start : tie.In-loop Inv-loop μ-loop → tie.Start Inv-loop μ-loop
@@ -35,7 +35,7 @@ listed c =
     let s = start c in
     let at = c .before .loop in
     let p = bare (tasksIn (s .args .rows .now)) in
-    let here = last-task p (bare-lawful (s .pre .0)) noRule (s .args .t3) (s .pre .1) (at .level) (omega arith) (at .inv .0) in
+    let here = last-task p (bare-lawful (s .pre .0)) noRule (s .args .t3) (s .pre .1 .1) (at .level) (omega arith) (at .inv .0) in
     omega (arith, s .pre .0 .few, here)
 
 loop-holds : tie.Need-loop-holds Inv-loop μ-loop
@@ -58,7 +58,8 @@ returns c =
     let turn = c .before .before in
     let s = start turn in
     let at = turn .before .loop in
-    last-any (bare (tasksIn (s .args .rows .now))) (bare-lawful (s .pre .0)) noRule (s .args .t3) (s .pre .1) (at .level) (omega arith) (at .inv .0)
+    last-any (bare (tasksIn (s .args .rows .now))) (bare-lawful (s .pre .0)) noRule (s .args .t3) (s .pre .1 .1) (at .level) (omega arith)
+    (at .inv .0)
     (marked (s .args .t2)) (marked (s .args .t4)) (at .inv .1) (c .if1 .taken)
 
 array-read-if2 : tie.Need-array-read-if2 Inv-loop μ-loop
@@ -75,7 +76,7 @@ loop-again c =
     (omega (arith, at .inv .0), none-next _ (s .args .t3 .order) (marked (s .args .t4)) (at .level) (at .inv .1) (c .if2 .left))
 
 choose-requires : tie.Need-choose-requires Inv-loop μ-loop
-choose-requires c κs = c .before .before .before .pre .0
+choose-requires c κs = let p = c .before .before .before .pre in (p .0, p .1 .0)
 
 returns-2 : tie.Need-returns-2 Inv-loop μ-loop
 returns-2 c = chosen-any _ _ (c .choose .ensures)

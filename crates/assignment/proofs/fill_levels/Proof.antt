@@ -2,35 +2,45 @@
 use mathlib.Core.Path.{_≡_, sym, ap, subst, _∙_}
 use mathlib.Core.Bool.{false, true≢false}
 use mathlib.Core.Logic.{⊎-elim, _↔_}
-use Prim.Native.Nat.{ℕ, _-_, _≤_, _<_}
+use Prim.Native.Nat.{ℕ, _-_, _<_}
 use native.Mathlib.Omega.{arith}
 use borrow.Author.Needs.{needs}
-use lib.ListN.{length, length-map}
-use Rattle.sets.specs.Marks.{marked}
+use lib.Dec.{T}
+use lib.ListN.{length, set, length-map}
+use Rattle.sets.specs.Bounded.{without}
+use Rattle.sets.specs.Marks.{marked, marked-without}
 use Rattle.taskset.specs.declared.PriorityLevel.{PriorityLevel}
 use Rattle.taskset.specs.Refusals.{maxTasks}
 use Rattle.taskset.specs.Words.{tasksIn, listsIn}
 use Rattle.response.specs.declared.Response.{Response}
+use Rattle.response.specs.declared.Resources.{Resources}
+use Rattle.response.specs.Resources.{BlocksEach, Tracks, blockingBy, blocking-level, tracks-unused}
 use Rattle.assignment.specs.declared.Search.{Search}
 use Rattle.assignment.specs.Orders.{SomeOrder}
 use Rattle.assignment.specs.Audsley.{withoutRules, responseAt, problem}
 use Rattle.assignment.specs.Search.{candidate, AnyOf, lowestFree, placed, Ended, Assigns, Helps}
 use Rattle.assignment.specs.Filling.{chosen-any}
 use Rattle.assignment.specs.Preemptive.{bare-lawful, ended-order}
-use Rattle.assignment.specs.Going.{Chose, Going, Gone, going-first, going-full, going-stuck, going-next, taker-within, sound-indexed}
+use Rattle.assignment.specs.Ready.{ready-left}
+use Rattle.assignment.specs.Going.{Chose, Going, Gone, going-first, going-full, going-stuck, going-next}
+use Rattle.assignment.specs.Going.{taker-left, sound-indexed}
 use Rattle.assignment.proofs.fill_levels.Statement.{statement}
 use Rattle.assignment.proofs.fill_levels.Tie as tie
 
 abbrev Inv-loop : tie.InvT-loop
-Inv-loop rows rules active given known other search₀ search =
+Inv-loop rows rules active given known other resources₀ blocking₀ search₀ resources blocking search =
     Going (problem (listsIn rows rules)) (marked active) (record { given = given; known = known; other = other }) search₀ search
+    × Tracks (tasksIn rows) (marked (search .left)) resources
+    × (blocking ≡ blockingBy resources)
 
 abbrev μ-loop : tie.MeasureT-loop
-μ-loop rows rules active given known other search₀ search = search .free
+μ-loop rows rules active given known other resources₀ blocking₀ search₀ resources blocking search = search .free
 
 -- where a level's turn stands, and where the search began
 abbrev start : tie.At-loop Inv-loop μ-loop → tie.Start Inv-loop μ-loop
-start at = let known = at .before .before in known .before .before .before
+start at =
+    let given = at .before .before .before .before in
+    given .before .before .before .before
 
 abbrev turn : tie.After-ready Inv-loop μ-loop → tie.At-loop Inv-loop μ-loop
 turn c = c .before .before .before
@@ -44,6 +54,13 @@ candidates c =
     let at = turn c in
     candidate (responseAt (tasksIn (start at .args .rows .now))) (marked (c .ready .result)) (marked (at .loop .search .left))
 
+-- the blocking of a ready task, which is one of those left
+charged : (c : tie.After-ready Inv-loop μ-loop) → let at = turn c in
+    BlocksEach (tasksIn (start at .args .rows .now)) (marked (c .ready .result)) (marked (at .loop .search .left)) (at .loop .blocking)
+charged c i h t =
+    let inv = turn c .loop .inv in
+    inv .2 ∙ blocking-level (inv .1) i h (ready-left _ _ _ (c .ready .ensures) i t)
+
 chose : (c : tie.Joined1 Inv-loop μ-loop) → let s = start (turn (c .before)) in
     Chose (length (tasksIn (s .args .rows .now))) (candidates (c .before)) (s .args .hints .given) (c .if1 .choice)
 chose c =
@@ -56,7 +73,16 @@ chose c =
     (λ w. record { any = chosen-any n (candidates (c .before)) (w .2 ∙ w .1 .ensures); greatest = λ off. w .2 ∙ w .1 .ensures })
     (c .if1 .came)
 
--- so the search goes on with the task that was told, at a level of the array
+-- who was told is one of the tasks left, and the search goes on with it, at a level of the array
+taker : (c : tie.After-choice Inv-loop μ-loop) → let joined = c .before .before in
+    let at = turn (joined .before) in
+    let task = c .choice .given .0 .0 in
+    (task .0 < length (tasksIn (start at .args .rows .now))) × T (marked (at .loop .search .left) (task .0))
+taker c =
+    let joined = c .before .before in
+    let at = turn (joined .before) in
+    taker-left (at .loop .inv .0) (omega arith) _ (joined .before .ready .ensures) (chose joined) _ _ (c .choice .given .1)
+
 next : (c : tie.After-choice Inv-loop μ-loop) → let joined = c .before .before in
     let at = turn (joined .before) in
     let s = start at in
@@ -69,12 +95,11 @@ next c =
     let at = turn (joined .before) in
     let s = start at in
     let few = s .pre .0 .tasks .few in
-    let more : 1 ≤ at .loop .search .free = omega arith in
     let is = joined .before .ready .ensures in
     let fair = bare-lawful (s .pre .0 .tasks) in (
-      omega (arith, few, at .loop .inv .searched .holds .free),
-      taker-within (at .loop .inv) more _ is few fair (chose joined) _ _ (c .choice .given .1),
-      going-next (at .loop .inv) more _ is few fair (chose joined) _ _ (c .choice .given .1),
+      omega (arith, few, at .loop .inv .0 .searched .holds .free),
+      omega (arith, few, taker c .0),
+      going-next (at .loop .inv .0) (omega arith) _ is (chose joined) _ _ (c .choice .given .1) few fair,
     )
 
 -- the level that it takes is one of the array's
@@ -95,9 +120,15 @@ says s gone = (gone .ended, (ended-order _ (s .pre .0) _ _ (gone .ended), (gone 
 
 loop-holds : tie.Need-loop-holds Inv-loop μ-loop
 loop-holds c =
-    let known = c .before in
-    let s = known .before .before .before in
-    going-first (s .args .from) (long s) (s .pre .1 .0) (s .pre .1 .1)
+    let given = c .before .before .before in
+    let s = given .before .before .before .before in
+    (going-first (s .args .from) (long s) (s .pre .1 .0) (s .pre .1 .1), c .before .resources-at .ensures, c .blocking-by .ensures)
+
+resources-at-requires : tie.Need-resources-at-requires Inv-loop μ-loop
+resources-at-requires c κs = c .before .before .before .before .before .pre .0 .tasks .few
+
+blocking-by-requires : tie.Need-blocking-by-requires Inv-loop μ-loop
+blocking-by-requires c κs = c .resources-at .ensures .few
 
 ready-requires : tie.Need-ready-requires Inv-loop μ-loop
 ready-requires c κs = let at = c .before .before in sound-indexed _ (start at .pre .0)
@@ -105,11 +136,11 @@ ready-requires c κs = let at = c .before .before in sound-indexed _ (start at .
 choose-any-requires : tie.Need-choose-any-requires Inv-loop μ-loop
 choose-any-requires c κs =
     let at = turn (c .before) in
-    let helps = at .loop .inv .helps in
-    (start at .pre .0 .tasks, (helps .known (c .if1 .taken), helps .other (c .if1 .taken)))
+    let helps = at .loop .inv .0 .helps in
+    (start at .pre .0 .tasks, (charged (c .before), (helps .known (c .if1 .taken), helps .other (c .if1 .taken))))
 
 choose-requires : tie.Need-choose-requires Inv-loop μ-loop
-choose-requires c κs = start (turn (c .before)) .pre .0 .tasks
+choose-requires c κs = (start (turn (c .before)) .pre .0 .tasks, charged (c .before))
 
 enum-known-choice : tie.Need-enum-known-choice Inv-loop μ-loop
 enum-known-choice c = search needs
@@ -121,7 +152,7 @@ returns : tie.Need-returns Inv-loop μ-loop
 returns c =
     let joined = c .before .before in
     let at = turn (joined .before) in
-    says (start at) (going-stuck (at .loop .inv) (omega arith) _ (joined .before .ready .ensures) (chose joined) (c .enum-told .given .1))
+    says (start at) (going-stuck (at .loop .inv .0) (omega arith) _ (joined .before .ready .ensures) (chose joined) (c .enum-told .given .1))
 
 lowest-free-requires : tie.Need-lowest-free-requires Inv-loop μ-loop
 lowest-free-requires c κs = omega arith
@@ -141,22 +172,75 @@ element-write-search c = within c
 element-write-search-2 : tie.Need-element-write-search-2 Inv-loop μ-loop
 element-write-search-2 c = next (told c) .1
 
+resources-after-requires : tie.Need-resources-after-requires Inv-loop μ-loop
+resources-after-requires c κs =
+    let chosen = told (c .before .before) in
+    let was = taker chosen in
+    let at = turn (chosen .before .before .before) in
+    (was .0, (marked (at .loop .search .left), was .1, at .loop .inv .1))
+
+-- what is kept after it
+kept : (c : tie.After-resources-after Inv-loop μ-loop) → let chosen = told (c .before .before .before) in
+    let at = turn (chosen .before .before .before) in
+    Tracks (tasksIn (start at .args .rows .now)) (without (marked (at .loop .search .left)) (chosen .choice .given .0 .0 .0))
+    (c .resources-after .result)
+kept c =
+    let chosen = told (c .before .before .before) in
+    let at = turn (chosen .before .before .before) in
+    c .resources-after .ensures _ (taker chosen .1) (at .loop .inv .1)
+
+blocking-by-requires-2 : tie.Need-blocking-by-requires-2 Inv-loop μ-loop
+blocking-by-requires-2 c κs = kept c .few
+
+-- after the level the search is on its way, and the level is one fewer
+module _ (c : tie.After-lowest-free Inv-loop μ-loop) where
+  abbrev level : tie.At-loop Inv-loop μ-loop
+  level = turn (told c .before .before .before)
+
+  less : c .lowest-free .result .0 < level .loop .search .free
+  less = omega (arith, ap (λ (p : PriorityLevel). p .0) (c .lowest-free .ensures))
+
+  further : {r : Resources} {b : ℕ} → b ≡ blockingBy r → let s = start level in
+      let tasks = tasksIn (s .args .rows .now) in
+      let i = told c .choice .given .0 .0 .0 in
+      Tracks tasks (without (marked (level .loop .search .left)) i) r
+      → Going (problem (listsIn (s .args .rows .now) (s .args .rules .now))) (marked (s .args .active)) (s .args .hints) (s .args .from)
+      (placed (level .loop .search) (c .lowest-free .result) (told c .choice .given .0 .0) (told c .choice .given .0 .1 .0))
+      × Tracks tasks (marked (set (level .loop .search .left) i false)) r
+      × (b ≡ blockingBy r)
+  further same tracks =
+      let s = start level in
+      let i = told c .choice .given .0 .0 .0 in
+      let left = level .loop .search .left in
+      let here : i < length left = omega (arith, next (told c) .1, level .loop .inv .0 .long) in (
+        subst (λ (p : PriorityLevel). Going (problem (listsIn (s .args .rows .now) (s .args .rules .now))) (marked (s .args .active))
+            (s .args .hints) (s .args .from) (placed (level .loop .search) p (told c .choice .given .0 .0) (told c .choice .given .0 .1 .0)))
+            (sym (c .lowest-free .ensures))
+            (next (told c) .2),
+        rw (marked-without left i here) tracks,
+        same,
+      )
+
 loop-less : tie.Need-loop-less Inv-loop μ-loop
-loop-less c = omega (arith, ap (λ (level : PriorityLevel). level .0) (c .lowest-free .ensures))
+loop-less c = let after = c .before in less (after .before .before .before)
 
 loop-again : tie.Need-loop-again Inv-loop μ-loop
-loop-again c =
-    let at = turn (told c .before .before .before) in
-    let s = start at in
-    subst (λ (level : PriorityLevel). Going (problem (listsIn (s .args .rows .now) (s .args .rules .now))) (marked (s .args .active))
-    (s .args .hints) (s .args .from) (placed (at .loop .search) level (told c .choice .given .0 .0) (told c .choice .given .0 .1 .0)))
-    (sym (c .lowest-free .ensures))
-    (next (told c) .2)
+loop-again c = let after = c .before in further (after .before .before .before) (c .blocking-by2 .ensures) (kept after)
+
+loop-less-2 : tie.Need-loop-less-2 Inv-loop μ-loop
+loop-less-2 c = less (c .before .before)
+
+loop-again-2 : tie.Need-loop-again-2 Inv-loop μ-loop
+loop-again-2 c =
+    let free = c .before .before in
+    let was = taker (told free) in
+    let inv = level free .loop .inv in
+    further free (inv .2) (tracks-unused (inv .1) _ (was .0) (was .1) (c .if2 .left))
 
 returns-2 : tie.Need-returns-2 Inv-loop μ-loop
 returns-2 c =
     let at = c .before in
-    says (start at) (going-full (at .loop .inv) (omega arith))
+    says (start at) (going-full (at .loop .inv .0) (omega arith))
 
 pub fill-levels-spec : {M : Type 1} → statement M
 fill-levels-spec =
@@ -164,6 +248,8 @@ fill-levels-spec =
     (tie.spec
     Inv-loop
     μ-loop
+    resources-at-requires
+    blocking-by-requires
     loop-holds
     ready-requires
     choose-any-requires
@@ -177,6 +263,10 @@ fill-levels-spec =
     mul-search
     element-write-search
     element-write-search-2
+    resources-after-requires
+    blocking-by-requires-2
     loop-less
     loop-again
+    loop-less-2
+    loop-again-2
     returns-2)

@@ -9,6 +9,9 @@ use Rattle.response.specs.Timing.{timingOf, reported}
 use Rattle.assignment.proofs.late_response.Statement.{statement}
 use Rattle.assignment.proofs.late_response.Tie as tie
 
+timing-of-requires : tie.Need-timing-of-requires
+timing-of-requires c κs = let p = c .before .before .pre in (p .0, (p .1 .0, rw (c .others .ensures) (p .1 .1)))
+
 returns : tie.Need-returns
 returns c =
     let found = c .before in
@@ -19,4 +22,4 @@ returns c =
     ∙ ap (λ (f : ℕ → Bool). reported (timingOf (tasksIn (now (s .args .rows))) (s .args .task .0) f)) (above .others .ensures)
 
 pub late-response-spec : {M : Type 1} → statement M
-late-response-spec = tie.close (tie.spec (λ c κs. search needs) (λ c κs. search needs) (λ c κs. search needs) returns)
+late-response-spec = tie.close (tie.spec (λ c κs. search needs) timing-of-requires (λ c κs. search needs) returns)

@@ -6,6 +6,7 @@ use Prim.Native.Nat.{ℕ, _+_, _-_, _*_, _≤_, _<_}
 use native.Mathlib.Omega.{arith}
 use borrow.Author.Needs.{needs}
 use lib.ListN.{length}
+use Rattle.sets.specs.Choice.{true→T}
 use Rattle.sets.specs.Marks.{marked}
 use Rattle.taskset.specs.Refusals.{maxTasks}
 use Rattle.taskset.specs.Words.{tasksIn}
@@ -17,15 +18,15 @@ use Rattle.listing.proofs.late_lines.Statement.{statement}
 use Rattle.listing.proofs.late_lines.Tie as tie
 
 abbrev Inv-loop : tie.InvT-loop
-Inv-loop rows numbers₀ left n count₀ k₀ numbers count k =
+Inv-loop rows numbers₀ left n blocking count₀ k₀ numbers count k =
     (k ≤ n) × Written (marked left) (lateLine (tasksIn rows) (marked left)) lateWidth (length numbers₀) k count numbers
 
 abbrev μ-loop : tie.MeasureT-loop
-μ-loop rows numbers₀ left n count₀ k₀ numbers count k = n - k
+μ-loop rows numbers₀ left n blocking count₀ k₀ numbers count k = n - k
 
 -- where a turn began
 abbrev start : tie.In-loop Inv-loop μ-loop → tie.Start Inv-loop μ-loop
-start c = c .before .before .before .before
+start c = c .before .before .before .before .before
 
 -- the next task is one of the words', and few enough; and there is room for its line
 here : (c : tie.In-loop Inv-loop μ-loop) → let s = start c in
@@ -50,7 +51,13 @@ array-read-if1 : tie.Need-array-read-if1 Inv-loop μ-loop
 array-read-if1 c = here c .1
 
 late-response-requires : tie.Need-late-response-requires Inv-loop μ-loop
-late-response-requires c κs = let turned = c .before in (start turned .pre .0, here turned .0)
+late-response-requires c κs =
+    let turned = c .before in
+    let inside = here turned .0 in
+    (start turned .pre .0, (inside, turned .before .before .level-blocking .ensures _ inside (true→T _ (c .if1 .taken))))
+
+level-blocking-requires : tie.Need-level-blocking-requires Inv-loop μ-loop
+level-blocking-requires c κs = c .before .before .pre .0 .few
 
 mul-put-numbers : tie.Need-mul-put-numbers Inv-loop μ-loop
 mul-put-numbers c = omega (arith, fits (turn c) .0)
@@ -87,7 +94,7 @@ same-length c = c .before .loop .inv .1 .size
 returns : tie.Need-returns Inv-loop μ-loop
 returns c =
     let at = c .before .loop in
-    let s = c .before .before .before .before in
+    let s = c .before .before .before .before .before in
     let tasks = tasksIn (s .args .rows .now) in
     let whole : at .k ≡ length tasks = omega (arith, tasks-length (s .args .rows .now)) in
     let lines = linesBelow (marked (s .args .t1)) (lateLine tasks (marked (s .args .t1))) in
@@ -99,6 +106,7 @@ late-lines-spec =
     (tie.spec
     Inv-loop
     μ-loop
+    level-blocking-requires
     loop-holds
     array-read-if1
     late-response-requires

@@ -1,24 +1,25 @@
 -- `response::gather` meets its contract: after j tasks the base and what is kept stand for those. Assumes nothing.
-use mathlib.Core.Path.{_≡_, refl, ap}
-use Prim.Native.Nat.{_+_, _-_, _≤_, _<_}
+use mathlib.Core.Path.{_≡_, refl, ap₂}
+use Prim.Native.Nat.{ℕ, _+_, _-_, _*_, _≤_, _<_}
 use native.Mathlib.Omega.{arith}
 use lib.ListN.{length, set, length-set}
 use denote.Ref.{now}
 use Rattle.sets.specs.Marks.{marked}
 use Rattle.taskset.specs.declared.Task.{Task}
-use Rattle.taskset.specs.Refusals.{maxTasks, InRanges}
+use Rattle.taskset.specs.Refusals.{maxTasks, maxPeriod}
 use Rattle.taskset.specs.Words.{tasksIn}
 use Rattle.taskset.specs.WordsLaws.{tasks-count, read-sound}
+use Rattle.response.specs.BlockingLaws.{blocking-le}
 use Rattle.response.specs.Gather.{Gathered, gathered-none, gathered-more, gathered-all}
 use Rattle.response.proofs.gather.Statement.{statement}
 use Rattle.response.proofs.gather.Tie as tie
 
 abbrev Inv-loop : tie.InvT-loop
-Inv-loop rows room kept₀ above n base₀ start₀ count₀ j₀ kept base start count j =
+Inv-loop rows blocking room kept₀ above n base₀ start₀ count₀ j₀ kept base start count j =
     (j ≤ n) × (length kept ≡ length kept₀) × Gathered (tasksIn rows) (marked above) room base₀ j base start count kept
 
 abbrev μ-loop : tie.MeasureT-loop
-μ-loop rows room kept₀ above n base₀ start₀ count₀ j₀ kept base start count j = n - j
+μ-loop rows blocking room kept₀ above n base₀ start₀ count₀ j₀ kept base start count j = n - j
 
 -- the places: the start, where the task itself is read, and where a task's share is known
 abbrev start : tie.After-task-in Inv-loop μ-loop → tie.Start Inv-loop μ-loop
@@ -30,8 +31,17 @@ reading c = c .before .before
 abbrev sharing : tie.After-struct-known4 Inv-loop μ-loop → tie.After-share Inv-loop μ-loop
 sharing c = c .before .before .before
 
-own : (c : tie.After-task-in Inv-loop μ-loop) → InRanges (c .task-in .result)
-own c = read-sound (start c .pre .0) (start c .pre .1 .0) (c .task-in .ensures)
+-- what the task itself needs
+module _ (c : tie.After-task-in Inv-loop μ-loop) where
+  abbrev needed : ℕ
+  needed = start c .args .blocking + c .task-in .result .execution
+
+  needed-fits : (1 ≤ needed) × (needed ≤ 2 * maxPeriod)
+  needed-fits =
+      let s = start c in
+      let r = read-sound (s .pre .0) (s .pre .1 .0) (c .task-in .ensures) in
+      let b = blocking-le (s .pre .0) (s .args .task .0) (marked (s .args .t3)) in
+      (omega arith, omega (arith, b, s .pre .1 .1 .0))
 
 -- a turn's task is one of the set's, and there is room for it
 module _ (c : tie.In-loop Inv-loop μ-loop) where
@@ -42,13 +52,12 @@ module _ (c : tie.In-loop Inv-loop μ-loop) where
   below = let h = tasks-count _ (begun .pre .0) in (omega arith, omega arith)
 
   fits : c .before .loop .count < length (c .before .loop .kept)
-  fits = let inv = c .before .loop .inv in omega (arith, below .1, inv .1, inv .2 .few, begun .pre .1 .1 .1)
+  fits = let inv = c .before .loop .inv in omega (arith, below .1, inv .1, inv .2 .few, begun .pre .1 .1 .1 .1)
 
 -- and with it the load stands for one task more
 more : (c : tie.After-share Inv-loop μ-loop) → let s = begun (c .before) .args in
-    let own = reading (c .before .before) .task-in .result in
     let at = c .before .before .loop in
-    Gathered (tasksIn (now (s .rows))) (marked (s .t3)) (s .room) (own .blocking + own .execution) (at .j + 1)
+    Gathered (tasksIn (now (s .rows))) (marked (s .t3)) (s .room) (needed (reading (c .before .before))) (at .j + 1)
     (at .base + c .share .result .base) (at .start + c .share .result .start) (at .count + c .share .result .count)
     (set (at .kept) (at .count) (at .j))
 more c =
@@ -59,16 +68,16 @@ task-in-requires : tie.Need-task-in-requires Inv-loop μ-loop
 task-in-requires c κs = c .before .before .pre .1 .0
 
 add-base : tie.Need-add-base Inv-loop μ-loop
-add-base c = let r = own (c .before) in omega arith
+add-base c = omega (arith, needed-fits (c .before))
 
 loop-holds : tie.Need-loop-holds Inv-loop μ-loop
-loop-holds c = let r = own (c .before) in (omega arith, refl, gathered-none (omega arith) (omega arith))
+loop-holds c = let fits = needed-fits (c .before) in (omega arith, refl, gathered-none (fits .0) (fits .1))
 
 cast-kept : tie.Need-cast-kept Inv-loop μ-loop
 cast-kept c = omega (arith, below c .1)
 
 share-requires : tie.Need-share-requires Inv-loop μ-loop
-share-requires c κs = let p = begun c .pre in (p .0, (below c .0, p .1 .1 .0))
+share-requires c κs = let p = begun c .pre in (p .0, (below c .0, p .1 .1 .1 .0))
 
 add-base-2 : tie.Need-add-base-2 Inv-loop μ-loop
 add-base-2 c = let g = more (c .before) in omega (arith, g .first, g .high, below (c .before .before) .1)
@@ -91,8 +100,8 @@ returns c =
     let s = start r in
     let at = c .before .loop in
     let h = tasks-count _ (s .pre .0) in
-    let inside : at .count ≤ length (at .kept) = omega (arith, at .inv .1, at .inv .2 .few, s .pre .1 .1 .1) in
-    let own = ap (λ (t : Task). t .blocking + t .execution) (r .task-in .ensures) in
+    let inside : at .count ≤ length (at .kept) = omega (arith, at .inv .1, at .inv .2 .few, s .pre .1 .1 .1 .1) in
+    let own = ap₂ (λ (b : ℕ) (t : Task). b + t .execution) (s .pre .1 .1 .0) (r .task-in .ensures) in
     (inside, gathered-all (at .inv .2) (s .pre .0) own (omega arith) inside)
 
 pub gather-spec : {M : Type 1} → statement M

@@ -3,12 +3,13 @@ use mathlib.Core.Path.{_≡_}
 use Prim.Native.Nat.{_+_, _-_, _≤_}
 use native.Mathlib.Omega.{arith}
 use denote.Ref.{now}
+use Rattle.sets.specs.Bounded.{every}
 use Rattle.sets.specs.Sum.{sum, sum-start, sum-turn, sum-end}
 use Rattle.taskset.specs.Words.{tasksIn}
 use Rattle.taskset.specs.WordsLaws.{read-sound}
 use Rattle.response.specs.Equation.{interference}
 use Rattle.response.specs.Demand.{interference-sum}
-use Rattle.response.specs.Load.{every, keptAt, loadDemand}
+use Rattle.response.specs.Load.{keptAt, loadDemand}
 use Rattle.response.proofs.load_demand.Statement.{statement}
 use Rattle.response.proofs.load_demand.Tie as tie
 

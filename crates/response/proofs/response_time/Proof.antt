@@ -34,7 +34,7 @@ returns : tie.Need-returns
 returns c = late-by-jitter _ _ _ _ _ (c .before .before .task-in .ensures) (c .if1 .taken)
 
 gather-requires : tie.Need-gather-requires
-gather-requires c κs = let p = reading c .before .before .pre in (p .0, (p .1 .0, (omega arith, omega arith)))
+gather-requires c κs = let p = reading c .before .before .pre in (p .0, (p .1 .0, (p .1 .1 .0, (omega arith, omega arith))))
 
 slice-aggregate-climb : tie.Need-slice-aggregate-climb
 slice-aggregate-climb c = sym (length-take-le _ _ (c .before .before .gather .ensures .0))
@@ -45,8 +45,13 @@ returns-2 c =
     let r = reading (gathering end .before) in
     found-response _ _ _ _ _ (r .task-in .ensures) _ (sym (c .enum-told .given .1) ∙ found end)
 
-add-t17 : tie.Need-add-t17
-add-t17 c = let h = window-room _ _ _ (sym (c .before .before .w .given .1) ∙ found (climbing c)) in omega arith
+add-t18 : tie.Need-add-t18
+add-t18 c =
+    let end = climbing c in
+    let r = reading (gathering end .before) in
+    let h = window-room _ _ _ (sym (c .before .before .w .given .1) ∙ found end) in
+    let within = gathering end .before .before .before .if1 .left in
+    omega (arith, h, within, r .before .before .pre .1 .1 .1)
 
 returns-3 : tie.Need-returns-3
 returns-3 c =
@@ -58,4 +63,4 @@ pub response-time-spec : {M : Type 1} → statement M
 response-time-spec =
     tie.close
     (tie.spec (λ c κs. search needs) returns (λ c. search needs) gather-requires (λ c. search needs) slice-aggregate-climb
-    (λ c κs. search needs) (λ c. search needs) (λ c. search needs) returns-2 add-t17 returns-3)
+    (λ c κs. search needs) (λ c. search needs) (λ c. search needs) returns-2 add-t18 returns-3)

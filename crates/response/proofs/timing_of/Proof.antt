@@ -16,8 +16,8 @@ searched c = c .before .before
 response-time-requires : tie.Need-response-time-requires
 response-time-requires c κs =
     let p = c .before .before .pre in
-    let own = read-sound (p .0) (p .1) (c .task-in .ensures) in
-    (p .0, (p .1, omega (arith, own .period, own .deadline)))
+    let own = read-sound (p .0) (p .1 .0) (c .task-in .ensures) in
+    (p .0, (p .1 .0, (p .1 .1, omega (arith, own .period, own .deadline))))
 
 returns : tie.Need-returns
 returns c =

@@ -4,7 +4,7 @@ use mathlib.Core.Bool.{false}
 use Prim.Native.Nat.{_-_}
 use borrow.Author.Needs.{needs}
 use Rattle.taskset.specs.declared.Task.{Task}
-use Rattle.taskset.specs.Refusals.{maxPeriod, outside, rowRefusals}
+use Rattle.taskset.specs.Refusals.{maxPeriod, longestSection, outside, rowRefusals}
 use Rattle.taskset.specs.RefusalLaws.{inside}
 use Rattle.taskset.proofs.row_refusal.Statement.{statement}
 use Rattle.taskset.proofs.row_refusal.Tie as tie
@@ -34,6 +34,10 @@ deadline-in c = sym (c .before .outside3 .ensures) ∙ c .if3 .left
 jitter-in : (c : tie.Else4) → let t = row (past1 (past2 (past3 c))) in outside 0 (t .period - 1) (t .jitter) ≡ false
 jitter-in c = sym (c .before .outside4 .ensures) ∙ c .if4 .left
 
+sections-are : (c : tie.After-outside5) → let t = row (past1 (past2 (past3 (c .before .before)))) in
+    outside 0 (t .execution) (longestSection t) ≡ c .outside5 .result
+sections-are c = rw (← c .before .longest-section .ensures) (sym (c .outside5 .ensures))
+
 returns : tie.Need-returns
 unfolding rowRefusals
 returns c = rw (sym (c .before .outside .ensures) ∙ c .if1 .taken)
@@ -61,21 +65,21 @@ returns-4 c =
 returns-5 : tie.Need-returns-5
 unfolding rowRefusals
 returns-5 c =
-    let p = c .before .before in
+    let p = c .before .before .before in
     let q = past3 p in
     let r = past2 q in
-    rw (period-in (past1 r), execution-in r, deadline-in q, jitter-in p, sym (c .before .outside5 .ensures) ∙ c .if5 .taken)
+    rw (period-in (past1 r), execution-in r, deadline-in q, jitter-in p, sections-are (c .before) ∙ c .if5 .taken)
 
 returns-6 : tie.Need-returns-6
 unfolding rowRefusals
 returns-6 c =
-    let p = c .before .before in
+    let p = c .before .before .before in
     let q = past3 p in
     let r = past2 q in
-    rw (period-in (past1 r), execution-in r, deadline-in q, jitter-in p, sym (c .before .outside5 .ensures) ∙ c .if5 .left)
+    rw (period-in (past1 r), execution-in r, deadline-in q, jitter-in p, sections-are (c .before) ∙ c .if5 .left)
 
 pub row-refusal-spec : {M : Type 1} → statement M
 row-refusal-spec =
     tie.close
     (tie.spec (λ c κs. search needs) returns (λ c κs. search needs) returns-2 (λ c κs. search needs) returns-3 sub-outside
-    (λ c κs. search needs) returns-4 (λ c κs. search needs) returns-5 returns-6)
+    (λ c κs. search needs) returns-4 (λ c κs. search needs) (λ c κs. search needs) returns-5 returns-6)

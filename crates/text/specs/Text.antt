@@ -52,7 +52,7 @@ hasForm letter count (f ∷ fs) = isLetter letter f && eqb (length fs) count && 
 abbrev pub valuesIn : List (List ℕ) → List ℕ
 valuesIn fs = map value (drop 1 fs)
 
--- `t`, C, T, D, J, B or `r`, u, l; nothing else is a line
+-- `t` and the numbers of a row, or `r` and those of a rule; nothing else is a line
 unfoldable pub asked : List (List ℕ) → Line
 asked fs =
     pick (hasForm letterT taskSize fs) (Asks (AddTask (taskOf (valuesIn fs))))

@@ -1,5 +1,5 @@
 -- Cases K1 to K13 of document 01 as one list of facts about the definitions, with one proof: K4 with its listing by document 02, (b),
--- and K12 and K13 with the sections of (c). Assumes nothing.
+-- K12 and K13 with the sections of (c), and what the ceiling protocol charges a task between two others. Assumes nothing.
 use mathlib.Core.Path.{_≡_, refl, subst}
 use mathlib.Core.Bool.{true, false}
 use mathlib.Core.List.{List, [], _∷_, _++_, map, flatMap}

@@ -13,14 +13,14 @@ use Rattle.response.specs.Blocking.{uses}
 
 -- the section of task j on resource k may block task i
 pub record MayBlockIn (tasks : List Task) (order : List ℕ) (i j k : ℕ) : Type 0 where
-  pub resource : k < resources
+  pub known : k < resources
   -- task j is below task i
-  pub task : j < length tasks
+  pub inside : j < length tasks
   pub below : rank order i < rank order j
   -- task i itself or some task above it uses the resource
   pub user : ℕ
-  pub above : (user ≡ i) ⊎ ((user < length tasks) × (rank order user < rank order i))
-  pub uses : T (uses (taskAt tasks user) k)
+  pub near : (user ≡ i) ⊎ ((user < length tasks) × (rank order user < rank order i))
+  pub used : T (uses (taskAt tasks user) k)
 
 -- a blocking for each task
 pub record OrderBlocking (tasks : List Task) (order : List ℕ) (blocking : ℕ → ℕ) : Type 0 where

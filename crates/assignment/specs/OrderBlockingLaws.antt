@@ -43,15 +43,15 @@ module _ (tasks : List Task) {order : List ℕ} (is : IsOrder (length tasks) ord
             says i .longest (sectionOn (taskAt tasks j) k)
             (record {
               holder = j;
-              inside = m .task;
+              inside = m .inside;
               notAbove = λ t. omega (arith, ltb→lt (rank order j) (rank order i) t, m .below);
               notItself = λ e. omega (arith, ap (rank order) e, m .below);
               resource = k;
-              known = m .resource;
+              known = m .known;
               held = refl;
               user = m .user;
-              near = ⊎-elim (λ e. inl e) (λ a. inr (a .0, lt→ltb (rank order (m .user)) (rank order i) (a .1))) (m .above);
-              used = m .uses;
+              near = ⊎-elim (λ e. inl e) (λ a. inr (a .0, lt→ltb (rank order (m .user)) (rank order i) (a .1))) (m .near);
+              used = m .used;
             });
         found = λ i h.
             ⊎-elim (λ z. inl z)
@@ -61,12 +61,12 @@ module _ (tasks : List Task) {order : List ℕ} (is : IsOrder (length tasks) ord
               (
                 m .resource,
                 record {
-                  resource = m .known;
-                  task = m .inside;
+                  known = m .known;
+                  inside = m .inside;
                   below = after i (m .holder) h (m .inside) (m .notAbove) (m .notItself);
                   user = m .user;
-                  above = ⊎-elim (λ e. inl e) (λ a. inr (a .0, ltb→lt (rank order (m .user)) (rank order i) (a .1))) (m .near);
-                  uses = m .used;
+                  near = ⊎-elim (λ e. inl e) (λ a. inr (a .0, ltb→lt (rank order (m .user)) (rank order i) (a .1))) (m .near);
+                  used = m .used;
                 },
                 m .held,
               ),

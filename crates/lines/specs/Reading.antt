@@ -96,17 +96,17 @@ pub record DigitsRead (line : List ℕ) (at end v : ℕ) : Type 0 where
   pub small : v < 10 ^ maxDigits
 
 -- the field that starts at a position
-abbrev field : List ℕ → ℕ → List ℕ
-field line at = upTo tab (drop at line)
+abbrev pub fieldFrom : List ℕ → ℕ → List ℕ
+fieldFrom line at = upTo tab (drop at line)
 
 -- a byte of it is no digit
 stray-in : {line : List ℕ} {at end : ℕ} → Unmarked tab line at end → end < length line → let b = getD line end 0 in
-    (b ≡ tab → ⊥) → noDigit b ≡ true → Malformed ≡ numberFrom at (field line at)
+    (b ≡ tab → ⊥) → noDigit b ≡ true → Malformed ≡ numberFrom at (fieldFrom line at)
 stray-in {line} {at} {end} u h other isnt =
     rw (unmarked-next u h other) (stray at (take (end - at) (drop at line)) (getD line end 0) (upTo tab (drop (suc end) line)) isnt)
 
 module _ (line : List ℕ) (at : ℕ) where
-  pub read-empty : length line ≤ at → Malformed ≡ numberFrom at (field line at)
+  pub read-empty : length line ≤ at → Malformed ≡ numberFrom at (fieldFrom line at)
   read-empty h = rw (← upTo-end tab line at h) (none-at-all at)
 
   -- its first byte
@@ -114,10 +114,10 @@ module _ (line : List ℕ) (at : ℕ) where
     start : Unmarked tab line at at
     start = unmarked-none tab line at (omega arith)
 
-    pub first-stray : noDigit b ≡ true → Malformed ≡ numberFrom at (field line at)
+    pub first-stray : noDigit b ≡ true → Malformed ≡ numberFrom at (fieldFrom line at)
     first-stray isnt = go (eqb b tab) refl
       where
-        go : (c : Bool) → eqb b tab ≡ c → Malformed ≡ numberFrom at (field line at)
+        go : (c : Bool) → eqb b tab ≡ c → Malformed ≡ numberFrom at (fieldFrom line at)
         go true f = rw (← mark-found start h (sym e ∙ eqb-true b tab f), sub-self at) (none-at-all at)
         go false f = stray-in start h (λ g. eqb-false b tab f (e ∙ g)) (rw e at isnt)
 
@@ -133,7 +133,7 @@ module _ (line : List ℕ) (at : ℕ) where
 
 module _ {line : List ℕ} {at end v : ℕ} (d : DigitsRead line at end v) where
   -- they are all
-  done : take (end - at) (drop at line) ≡ field line at → Value v end ≡ numberFrom at (field line at)
+  done : take (end - at) (drop at line) ≡ fieldFrom line at → Value v end ≡ numberFrom at (fieldFrom line at)
   done e =
       let (is, same) = read-back v (d .small) in
       let u = d .untabbed in
@@ -141,7 +141,7 @@ module _ {line : List ℕ} {at end v : ℕ} (d : DigitsRead line at end v) where
       let past : at + length (decimal v) ≡ end = omega (arith, u .past, ap length (d .are), long) in
       rw (← e, d .are, is, same, past)
 
-  pub read-last : length line ≤ end → Value v end ≡ numberFrom at (field line at)
+  pub read-last : length line ≤ end → Value v end ≡ numberFrom at (fieldFrom line at)
   read-last h =
       let all : end ≡ length line = omega (arith, d .untabbed .within) in
       done (rw all (no-mark (d .untabbed) all))
@@ -151,15 +151,15 @@ module _ {line : List ℕ} {at end v : ℕ} (d : DigitsRead line at end v) where
     abbrev byte : ℕ
     byte = getD line end 0
 
-    pub read-tab : byte ≡ tab → Value v end ≡ numberFrom at (field line at)
+    pub read-tab : byte ≡ tab → Value v end ≡ numberFrom at (fieldFrom line at)
     read-tab e = done (mark-found (d .untabbed) h e)
 
     module _ (other : byte ≡ tab → ⊥) where
-      pub read-over : isFull v ≡ true → Malformed ≡ numberFrom at (field line at)
+      pub read-over : isFull v ≡ true → Malformed ≡ numberFrom at (fieldFrom line at)
       read-over full = rw (unmarked-next (d .untabbed) h other, d .are) (over at v byte (upTo tab (drop (suc end) line)) full)
 
       module _ {b : ℕ} (e : b ≡ byte) where
-        pub read-stray : noDigit b ≡ true → Malformed ≡ numberFrom at (field line at)
+        pub read-stray : noDigit b ≡ true → Malformed ≡ numberFrom at (fieldFrom line at)
         read-stray isnt = stray-in (d .untabbed) h other (rw e at isnt)
 
         pub read-more : isFull v ≡ false → noDigit b ≡ false → DigitsRead line at (end + 1) (v * 10 + (b - 48))

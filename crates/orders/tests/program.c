@@ -290,7 +290,7 @@ static const struct use uses[] = {
     { "./orders examples/door-drive.txt", 0, "order\t6\n", "" },
     { "./orders <examples/packing-line.txt", 0, "core\t2\n", "" },
     { "cd examples && ../orders door-drive.txt", 0, "order\t6\n", "" },
-    { "printf 't\\t5\\t4\\t4\\t0\\t0\\n' | ./orders", 1, "bad\t1\t2\n", "" },
+    { "printf 't\\t5\\t4\\t4\\t0\\t0\\t0\\t0\\t0\\t0\\t0\\t0\\t0\\n' | ./orders", 1, "bad\t1\t2\n", "" },
     { "./orders examples/no-such-file", 2, "", "./orders: " },
     { "./orders examples", 2, "", NO_READ },
     { "./orders <&-", 2, "", "./orders: " },

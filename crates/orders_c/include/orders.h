@@ -6,7 +6,7 @@
  * begins with 0.
  *
  *     t  C  T  D  J  S0 .. S7     a task: execution time, period, deadline, jitter, and the
- *                                 longest section on each of eight resources, 0 where it uses none
+ *                                 longest section on each of eight resources, 0 where it does not use it
  *     r  u  l                     a rule: task u has a higher priority than task l
  *
  * Times are whole microseconds. Tasks and rules have places, counted from 0.

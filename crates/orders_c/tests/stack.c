@@ -78,7 +78,8 @@ static size_t need(void)
 /*
  * 64 tasks and 128 rules that take long: six tasks leave little of the
  * processor, rules stand in circles, and late tasks are tried at each level.
- * All eight resources are used.
+ * All eight resources are used. The deadlines of the late ones rise by what one
+ * more task above them adds to a response there, about 18,704 µs.
  */
 static struct bytes hostile(void)
 {

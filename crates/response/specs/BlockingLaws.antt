@@ -1,4 +1,4 @@
--- The function `blocking` gives what its relation says, and nothing else does; the lowest task has none; and with fewer tasks above,
+-- The function `blockingOf` gives what its relation says, and nothing else does; the lowest task has none; and with fewer tasks above,
 -- what blocking gains is a section of a task that is no longer above. Assumes nothing.
 use mathlib.Core.Path.{_≡_, sym, subst, _∙_}
 use mathlib.Core.Bool.{Bool, _&&_, not}
@@ -102,7 +102,7 @@ blocking-lowest tasks i above all =
     }))
 
 module _ {tasks : List Task} (sound : SoundTasks tasks) (i : ℕ) where
-  -- it is no longer than some task's execution time
+  -- it is at most some task's execution time, and so at most the longest period
   pub blocking-le : (above : ℕ → Bool) → blockingOf tasks i above ≤ maxPeriod
   blocking-le above =
       ⊎-elim (λ z. omega arith)

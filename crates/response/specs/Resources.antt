@@ -38,15 +38,15 @@ usersLeft tasks left k j = left j && uses (taskAt tasks j) k
 unfoldable pub usersOn : List Task → (ℕ → Bool) → ℕ → ℕ
 usersOn tasks left k = count (length tasks) (usersLeft tasks left k)
 
--- the other tasks, and the longest of their sections on it
-abbrev pub others : (ℕ → Bool) → ℕ → Bool
-others left j = not (left j)
+-- the tasks that have a level, and the longest of their sections on it
+abbrev pub levelled : (ℕ → Bool) → ℕ → Bool
+levelled left j = not (left j)
 
-abbrev pub sections : List Task → ℕ → ℕ → ℕ
-sections tasks k j = sectionOn (taskAt tasks j) k
+abbrev pub lengths : List Task → ℕ → ℕ → ℕ
+lengths tasks k j = sectionOn (taskAt tasks j) k
 
 unfoldable pub heldOn : List Task → (ℕ → Bool) → ℕ → ℕ
-heldOn tasks left k = maximum (length tasks) (others left) (sections tasks k)
+heldOn tasks left k = maximum (length tasks) (levelled left) (lengths tasks k)
 
 -- what is kept at a level, where no task uses a resource from `used` on
 abbrev pub FewUsed : Resources → Type 0
@@ -68,11 +68,11 @@ module _ (tasks : List Task) (left : ℕ → Bool) (used : ℕ) (few : used ≤ 
   abbrev n : ℕ
   n = length tasks
 
-  abbrev isUsed : ℕ → Bool
-  isUsed k = ltb 0 (usersOn tasks left k)
+  abbrev leftUses : ℕ → Bool
+  leftUses k = ltb 0 (usersOn tasks left k)
 
   abbrev most : ℕ
-  most = maximum used isUsed (heldOn tasks left)
+  most = maximum used leftUses (heldOn tasks left)
 
   module _ (i : ℕ) (h : i < n) (on : T (left i)) where
     abbrev above : ℕ → Bool
@@ -94,10 +94,10 @@ module _ (tasks : List Task) (left : ℕ → Bool) (used : ℕ) (few : used ≤ 
         let k = m .resource in
         let u = is-left (m .user) (m .near) in
         let out : T (left j) → ⊥ = λ t. m .notAbove (without-other left i j (λ e. m .notItself (sym e)) t) in
-        let here = maximum-at n (others left) (sections tasks k) j (m .inside) (refuted→not (left j) out) in
+        let here = maximum-at n (levelled left) (lengths tasks k) j (m .inside) (refuted→not (left j) out) in
         ⊎-elim
         (λ l.
-        let top = maximum-at used isUsed (heldOn tasks left) k (ltb→lt k used l)
+        let top = maximum-at used leftUses (heldOn tasks left) k (ltb→lt k used l)
         (any-of n (usersLeft tasks left k) (m .user) (u .0) (and-intro (left (m .user)) _ (u .1) (m .used))) in
         omega (arith, m .held, here, top))
         (λ out. omega (arith, m .held, rest j k (m .inside) (ltb-false k used (refuted→false (ltb k used) out)) (m .known)))
@@ -127,8 +127,8 @@ module _ (tasks : List Task) (left : ℕ → Bool) (used : ℕ) (few : used ≤ 
           near = near (u .0) (u .1) (and-left (left (u .0)) _ (u .2));
           used = and-right (left (u .0)) _ (u .2);
         }))
-        (maximum-found n (others left) (sections tasks k)))
-        (maximum-found used isUsed (heldOn tasks left))
+        (maximum-found n (levelled left) (lengths tasks k)))
+        (maximum-found used leftUses (heldOn tasks left))
 
   most-level : BlocksEach tasks left left most
   most-level i h on = blocking-exactly tasks i (without left i) most .0 (record { longest = longest i h on; found = found i h on })
@@ -159,12 +159,12 @@ module _ (tasks : List Task) (left : ℕ → Bool) (used : ℕ) (rest : UnusedFr
   unfolding usersOn
   users-unused =
       count-zero (length tasks) (usersLeft tasks left k)
-      (λ j h t. omega (arith, rest j k h over known, ltb→lt 0 (sections tasks k j) (and-right (left j) (uses (taskAt tasks j) k) t)))
+      (λ j h t. omega (arith, rest j k h over known, ltb→lt 0 (lengths tasks k j) (and-right (left j) (uses (taskAt tasks j) k) t)))
 
   pub held-unused : heldOn tasks left k ≡ 0
   unfolding heldOn
   held-unused =
-      let none = maximum-le (length tasks) (others left) (sections tasks k) 0 (λ j h t. omega (arith, rest j k h over known)) in
+      let none = maximum-le (length tasks) (levelled left) (lengths tasks k) 0 (λ j h t. omega (arith, rest j k h over known)) in
       omega arith
 
 -- ---- after a task left has taken a level
@@ -208,23 +208,23 @@ module _ (tasks : List Task) (left : ℕ → Bool) (i : ℕ) (h : i < length tas
   pub held-next : heldOn tasks now k ≡ max (heldOn tasks left k) (sectionOn (taskAt tasks i) k)
   unfolding heldOn
   held-next =
-      let held = maximum (length tasks) (others left) (sections tasks k) in
-      let later = maximum (length tasks) (others now) (sections tasks k) in
+      let held = maximum (length tasks) (levelled left) (lengths tasks k) in
+      let later = maximum (length tasks) (levelled now) (lengths tasks k) in
       let own = sectionOn (taskAt tasks i) k in
       let up : later ≤ max held own =
-      maximum-le (length tasks) (others now) (sections tasks k) (max held own)
+      maximum-le (length tasks) (levelled now) (lengths tasks k) (max held own)
       (λ j l t. ⊎-elim
       (λ e. let same = ap (λ (q : ℕ). sectionOn (taskAt tasks q) k) (eqb→eq i j e) in omega (arith, same))
       (λ apart.
       let out : T (left j) → ⊥ = λ s. not→refuted (now j) t (without-other left i j (λ e. apart (true→T (eqb i j) (eq-eqb i j e))) s) in
-      omega (arith, maximum-at (length tasks) (others left) (sections tasks k) j l (refuted→not (left j) out)))
+      omega (arith, maximum-at (length tasks) (levelled left) (lengths tasks k) j l (refuted→not (left j) out)))
       (decided (eqb i j))) in
       let same : held ≤ later =
-      maximum-le (length tasks) (others left) (sections tasks k) later
-      (λ j l t. maximum-at (length tasks) (others now) (sections tasks k) j l
+      maximum-le (length tasks) (levelled left) (lengths tasks k) later
+      (λ j l t. maximum-at (length tasks) (levelled now) (lengths tasks k) j l
       (refuted→not (now j) (λ s. not→refuted (left j) t (without-still left i j s .0)))) in
       let mine : own ≤ later =
-      maximum-at (length tasks) (others now) (sections tasks k) i h
+      maximum-at (length tasks) (levelled now) (lengths tasks k) i h
       (refuted→not (now i) (λ s. without-still left i i s .1 refl)) in
       omega (arith, up, same, mine)
 

@@ -20,9 +20,9 @@ use taskset::MAX_TASKS;
 use taskset::RESOURCES;
 use taskset::TASK_WORDS;
 use taskset::TaskIndex;
-use taskset::is_independent;
 use taskset::section_in;
 use taskset::task_in;
+use taskset::uses_none;
 
 // Some task uses this resource.
 fn is_used(rows: &[u64], resource: usize) -> bool
@@ -47,7 +47,7 @@ fn is_shared(rows: &[u64]) -> bool
     let n = rows.len() / TASK_WORDS;
     let mut j = 0;
     while j < n {
-        if !is_independent(task_in(rows, j)) {
+        if !uses_none(task_in(rows, j)) {
             return true;
         }
         j += 1;

@@ -15,7 +15,7 @@ use Rattle.taskset.specs.declared.TaskSet.{TaskSet}
 use Rattle.taskset.specs.declared.Call.{Call}
 use Rattle.taskset.specs.declared.Call.the-variants.{AddTask, AddRule}
 use Rattle.taskset.specs.declared.Added.{Added}
-use Rattle.taskset.specs.Refusals.{maxTasks, maxRules, isIndependent, entryFits}
+use Rattle.taskset.specs.Refusals.{maxTasks, maxRules, usesNone, entryFits}
 use Rattle.taskset.specs.Model.{Lists, noLists, refusalOf, extended, blankTask, blankRule}
 
 -- the set that holds these lists: unused entries are all zeros
@@ -38,7 +38,7 @@ freshSet = holding noLists
 -- ---- refusal 14
 
 abbrev pub isBlankTask : Task → Bool
-isBlankTask t = eqb (t .period) 0 && eqb (t .execution) 0 && eqb (t .deadline) 0 && eqb (t .jitter) 0 && isIndependent t
+isBlankTask t = eqb (t .period) 0 && eqb (t .execution) 0 && eqb (t .deadline) 0 && eqb (t .jitter) 0 && usesNone t
 
 abbrev pub isBlankRule : Rule → Bool
 isBlankRule r = eqb (r .higher .0) 0 && eqb (r .lower .0) 0

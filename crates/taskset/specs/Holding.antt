@@ -15,7 +15,7 @@ use Rattle.sets.specs.Bounded.{all, all-of, below-suc}
 use Rattle.sets.specs.Pad.{pad, take-pad, pad-used, pad-unused}
 use Rattle.taskset.specs.declared.Call.{Call}
 use Rattle.taskset.specs.declared.Call.the-variants.{AddTask, AddRule}
-use Rattle.taskset.specs.Refusals.{maxTasks, maxRules, sectionOn, isIndependent, InRanges, Between, Acceptable, Room}
+use Rattle.taskset.specs.Refusals.{maxTasks, maxRules, sectionOn, usesNone, InRanges, Between, Acceptable, Room}
 use Rattle.taskset.specs.Model.{Lists, noLists, refusalOf, extended, hear, heard, blankTask, blankRule, Sound}
 use Rattle.taskset.specs.Adding.{holding, lists, taskFits, ruleFits, entry, isMade, answering, add, run}
 use Rattle.taskset.specs.RefusalLaws.{taken-exactly, fits-exactly}
@@ -91,9 +91,9 @@ entries fits n d xs unused used =
     go k h false e = rw (pad-unused n d xs k (ltb-false k (length xs) e) h) unused
 
 -- a blank row has no sections
-blank-independent : isIndependent blankTask ≡ true
-unfolding isIndependent sectionOn all
-blank-independent = refl
+blank-uses-none : usesNone blankTask ≡ true
+unfolding usesNone sectionOn all
+blank-uses-none = refl
 
 pub sound-made : (l : Lists) → Sound l → isMade (holding l) ≡ true
 unfolding isMade taskFits ruleFits
@@ -103,7 +103,7 @@ sound-made l s =
     rw (
       le-leb n maxTasks (s .tasks .few),
       le-leb m maxRules (s .few-rules),
-      entries (taskFits n m) maxTasks blankTask (l .tasks) (rw blank-independent tt) (λ i h. fits-exactly n m (AddTask _) .1 (s .tasks .each i h)),
+      entries (taskFits n m) maxTasks blankTask (l .tasks) (rw blank-uses-none tt) (λ i h. fits-exactly n m (AddTask _) .1 (s .tasks .each i h)),
       entries (ruleFits n m) maxRules blankRule (l .rules) tt (λ k h. fits-exactly n m (AddRule _) .1 (s .indices k h)),
     )
 

@@ -15,10 +15,10 @@ use Rattle.taskset.specs.declared.Task.{Task}
 use Rattle.taskset.specs.declared.Rule.{Rule}
 use Rattle.taskset.specs.declared.TaskSet.{TaskSet}
 use Rattle.taskset.specs.declared.Call.the-variants.{AddTask, AddRule}
-use Rattle.taskset.specs.Refusals.{maxTasks, maxRules, sectionOn, isIndependent, InRanges, Between}
+use Rattle.taskset.specs.Refusals.{maxTasks, maxRules, sectionOn, usesNone, InRanges, Between}
 use Rattle.taskset.specs.Model.{blankTask, blankRule, Sound}
 use Rattle.taskset.specs.Adding.{holding, lists, taskFits, ruleFits, entry, isMade}
-use Rattle.taskset.specs.RefusalLaws.{fits-exactly, sections-same, independent-at}
+use Rattle.taskset.specs.RefusalLaws.{fits-exactly, sections-same, none-used}
 
 -- a value of the code's type has arrays of these sizes
 abbrev pub Sized : TaskSet → Type 0
@@ -31,14 +31,14 @@ sized-by f g s t r = (sym (length-map (s .tasks) f) ∙ t, sym (length-map (s .r
 
 -- ---- entries
 
-blank-sections : (t : Task) → T (isIndependent t) → t .sections ≡ blankTask .sections
+blank-sections : (t : Task) → T (usesNone t) → t .sections ≡ blankTask .sections
 unfolding sectionOn
-blank-sections t h = sections-same (sectionOn t) (λ k. 0) (independent-at t h)
+blank-sections t h = sections-same (sectionOn t) (λ k. 0) (none-used t h)
 
 blank-task : (n m : ℕ) (t : Task) → T (taskFits n m false t) → t ≡ blankTask
 unfolding taskFits
 blank-task n m t h =
-    let (p, c, d, j, none) : (t .period ≡ 0) × (t .execution ≡ 0) × (t .deadline ≡ 0) × (t .jitter ≡ 0) × T (isIndependent t) =
+    let (p, c, d, j, none) : (t .period ≡ 0) × (t .execution ≡ 0) × (t .deadline ≡ 0) × (t .jitter ≡ 0) × T (usesNone t) =
     search (and-left, and-right, eqb→eq) in
     let s = blank-sections t none in
     λ i. record { period = p i; execution = c i; deadline = d i; jitter = j i; sections = s i }

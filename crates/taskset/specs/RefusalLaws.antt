@@ -17,7 +17,7 @@ use Rattle.taskset.specs.declared.Rule.{Rule}
 use Rattle.taskset.specs.declared.Call.{Call}
 use Rattle.taskset.specs.declared.Call.the-variants.{AddTask, AddRule}
 use Rattle.taskset.specs.Refusals.{maxTasks, maxRules, maxPeriod, InRanges, Between, Acceptable, Room}
-use Rattle.taskset.specs.Refusals.{resources, sectionsBy, sectionOn, longestSection, isIndependent}
+use Rattle.taskset.specs.Refusals.{resources, sectionsBy, sectionOn, longestSection, usesNone}
 use Rattle.taskset.specs.Refusals.{Refusal, fullBy, firstOf, outside, rowRefusals, indexRefusals}
 use Rattle.taskset.specs.Refusals.{refusals, refusalBy, entryFits}
 
@@ -71,9 +71,9 @@ longest-exactly t c = (
 )
 
 -- a task that uses none has no section on any
-pub independent-at : (t : Task) → T (isIndependent t) → (k : ℕ) → k < resources → sectionOn t k ≡ 0
-unfolding isIndependent
-independent-at t h k known = eqb→eq (sectionOn t k) 0 (all-at resources (λ q. eqb (sectionOn t q) 0) h k known)
+pub none-used : (t : Task) → T (usesNone t) → (k : ℕ) → k < resources → sectionOn t k ≡ 0
+unfolding usesNone
+none-used t h k known = eqb→eq (sectionOn t k) 0 (all-at resources (λ q. eqb (sectionOn t q) 0) h k known)
 
 row-numbered : (t : Task) → Numbered (rowRefusals t)
 unfolding rowRefusals

@@ -46,8 +46,8 @@ unfoldable pub longestSection : Task → ℕ
 longestSection t = maximum resources every (sectionOn t)
 
 -- a task that uses no resource
-unfoldable pub isIndependent : Task → Bool
-isIndependent t = all resources (λ k. eqb (sectionOn t k) 0)
+unfoldable pub usesNone : Task → Bool
+usesNone t = all resources (λ k. eqb (sectionOn t k) 0)
 
 -- ---- refusals
 

@@ -7,7 +7,7 @@ ghost use mathlib.Core.Bool.{true};
 ghost use mathlib.Core.Logic.{_↔_};
 ghost use Rattle.sets.specs.Bounded.{all};
 ghost use Rattle.taskset.specs.declared.Call.the-variants.{AddTask, AddRule};
-ghost use Rattle.taskset.specs.Refusals.{maxTasks, maxRules, sectionOn, longestSection, isIndependent};
+ghost use Rattle.taskset.specs.Refusals.{maxTasks, maxRules, sectionOn, longestSection, usesNone};
 ghost use Rattle.taskset.specs.Refusals.{firstOf, outside, rowRefusals, indexRefusals, refusalBy};
 ghost use Rattle.taskset.specs.Model.{blankTask, blankRule};
 ghost use Rattle.taskset.specs.Adding.{freshSet, isBlankTask, isBlankRule, taskFits, ruleFits, entry, isMade, add, Made};
@@ -142,8 +142,8 @@ fn longest_section(t: Task) -> u64
 }
 
 // A task that uses no resource.
-pub fn is_independent(t: Task) -> bool
-    ensures { λ r. ⌜ r ≡ isIndependent t ⌝ }
+pub fn uses_none(t: Task) -> bool
+    ensures { λ r. ⌜ r ≡ usesNone t ⌝ }
 {
     let s = t.sections;
     let upper = (s.r7 == 0) & (s.r6 == 0) & (s.r5 == 0) & (s.r4 == 0);
@@ -227,7 +227,7 @@ pub fn refusal(n: usize, m: usize, call: Call) -> u64
 fn is_blank_task(t: Task) -> bool
     ensures { λ r. ⌜ r ≡ isBlankTask t ⌝ }
 {
-    (t.period == 0) & (t.execution == 0) & (t.deadline == 0) & (t.jitter == 0) & is_independent(t)
+    (t.period == 0) & (t.execution == 0) & (t.deadline == 0) & (t.jitter == 0) & uses_none(t)
 }
 
 fn is_blank_rule(r: Rule) -> bool

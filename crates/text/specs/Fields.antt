@@ -11,9 +11,9 @@ use Rattle.sets.specs.Choice.{and-false}
 use Rattle.sets.specs.Pad.{pad, set-pad}
 use Rattle.lines.specs.declared.Number.the-variants.{Value, Malformed}
 use Rattle.lines.specs.Decimal.{tab, value, isNumber, numberFrom}
-use Rattle.lines.specs.Parts.{parts, upTo}
+use Rattle.lines.specs.Parts.{parts}
 use Rattle.lines.specs.PartsLaws.{part-first, part-last, part-step}
-use Rattle.lines.specs.Reading.{number-good, number-bad}
+use Rattle.lines.specs.Reading.{fieldFrom, number-good, number-bad}
 use Rattle.taskset.specs.Words.{taskSize}
 use Rattle.text.specs.declared.Numbers.{Numbers}
 use Rattle.text.specs.Text.{areNumbers, numbersIn}
@@ -86,23 +86,23 @@ numbers-all {fields} h =
 
 module _ (line : List ℕ) (at : ℕ) {fields : List (List ℕ)} {values : List ℕ} {count : ℕ}
     (h : FieldsRead fields (parts tab (drop at line)) values count) where
-  abbrev field : List ℕ
-  field = upTo tab (drop at line)
+  abbrev here : List ℕ
+  here = fieldFrom line at
 
-  pub field-bad : numberFrom at field ≡ Malformed → noNumbers ≡ numbersIn fields
-  field-bad e = numbers-bad h (part-first tab line at field refl) (number-bad at field e)
+  pub field-bad : numberFrom at here ≡ Malformed → noNumbers ≡ numbersIn fields
+  field-bad e = numbers-bad h (part-first tab line at here refl) (number-bad at here e)
 
-  module _ {v end : ℕ} (e : numberFrom at field ≡ Value v end) (room : count < taskSize) where
-    good : (isNumber field ≡ true) × (value field ≡ v) × (at + length field ≡ end)
-    good = number-good at field v end e
+  module _ {v end : ℕ} (e : numberFrom at here ≡ Value v end) (room : count < taskSize) where
+    good : (isNumber here ≡ true) × (value here ≡ v) × (at + length here ≡ end)
+    good = number-good at here v end e
 
-    held : {more : List (List ℕ)} → parts tab (drop at line) ≡ field ∷ more → FieldsRead fields more (set values count v) (count + 1)
+    held : {more : List (List ℕ)} → parts tab (drop at line) ≡ here ∷ more → FieldsRead fields more (set values count v) (count + 1)
     held next = one-read h next (good .0) (good .1) room
 
     -- it is the last
     pub field-last : length line ≤ end → record { values = set values count v; count = count + 1 } ≡ numbersIn fields
-    field-last all = numbers-all (held (part-last tab line at field refl (omega (arith, good .2))))
+    field-last all = numbers-all (held (part-last tab line at here refl (omega (arith, good .2))))
 
     -- or others follow
     pub field-next : end < length line → FieldsRead fields (parts tab (drop (end + 1) line)) (set values count v) (count + 1)
-    field-next more = rw (← good .2) (held (part-step tab line at field refl (omega (arith, good .2))))
+    field-next more = rw (← good .2) (held (part-step tab line at here refl (omega (arith, good .2))))

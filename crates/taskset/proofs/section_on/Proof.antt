@@ -16,45 +16,17 @@ beyond : (k : ℕ) → (k ≡ 0 → ⊥) → (k ≡ 1 → ⊥) → (k ≡ 2 → 
 beyond k a b c d e f g h =
     past 7 k (past 6 k (past 5 k (past 4 k (past 3 k (past 2 k (past 1 k (past 0 k zero-le a) b) c) d) e) f) g) h
 
-returns : tie.Need-returns
+no-resource : tie.Need-returns-9
 unfolding sectionOn
-returns c = rw (c .match .keys1)
-
-returns-2 : tie.Need-returns-2
-unfolding sectionOn
-returns-2 c = rw (c .match .keys2)
-
-returns-3 : tie.Need-returns-3
-unfolding sectionOn
-returns-3 c = rw (c .match .keys3)
-
-returns-4 : tie.Need-returns-4
-unfolding sectionOn
-returns-4 c = rw (c .match .keys4)
-
-returns-5 : tie.Need-returns-5
-unfolding sectionOn
-returns-5 c = rw (c .match .keys5)
-
-returns-6 : tie.Need-returns-6
-unfolding sectionOn
-returns-6 c = rw (c .match .keys6)
-
-returns-7 : tie.Need-returns-7
-unfolding sectionOn
-returns-7 c = rw (c .match .keys7)
-
-returns-8 : tie.Need-returns-8
-unfolding sectionOn
-returns-8 c = rw (c .match .keys8)
-
-returns-9 : tie.Need-returns-9
-unfolding sectionOn
-returns-9 c =
+no-resource c =
     let r = c .match .rest in
     let over = beyond _ (r .0 .0 .0 .0 .0 .0 .0 .1) (r .0 .0 .0 .0 .0 .0 .1) (r .0 .0 .0 .0 .0 .1) (r .0 .0 .0 .0 .1) (r .0 .0 .0 .1)
     (r .0 .0 .1) (r .0 .1) (r .1) in
     sym (List·getD-eq-default (sectionWords (c .before .before .args .t .sections)) 0 over)
 
 pub section-on-spec : {M : Type 1} → statement M
-section-on-spec = tie.close (tie.spec returns returns-2 returns-3 returns-4 returns-5 returns-6 returns-7 returns-8 returns-9)
+unfolding sectionOn
+section-on-spec =
+    tie.close
+    (tie.spec (λ c. rw (c .match .keys1)) (λ c. rw (c .match .keys2)) (λ c. rw (c .match .keys3)) (λ c. rw (c .match .keys4))
+    (λ c. rw (c .match .keys5)) (λ c. rw (c .match .keys6)) (λ c. rw (c .match .keys7)) (λ c. rw (c .match .keys8)) no-resource)

@@ -9,13 +9,13 @@ use Rattle.sets.specs.Marks.{marked}
 use Rattle.taskset.specs.Refusals.{maxTasks}
 use Rattle.taskset.specs.Words.{tasksIn}
 use Rattle.taskset.specs.WordsLaws.{tasks-length}
-use Rattle.response.specs.Resources.{others, sections, heldOn}
+use Rattle.response.specs.Resources.{levelled, lengths, heldOn}
 use Rattle.response.proofs.blocking.held_on.Statement.{statement}
 use Rattle.response.proofs.blocking.held_on.Tie as tie
 
 abbrev Inv-loop : tie.InvT-loop
 Inv-loop rows resource left n longest₀ j₀ longest j =
-    (j ≤ n) × (longest ≡ maximum j (others (marked left)) (sections (tasksIn rows) resource))
+    (j ≤ n) × (longest ≡ maximum j (levelled (marked left)) (lengths (tasksIn rows) resource))
 
 abbrev μ-loop : tie.MeasureT-loop
 μ-loop rows resource left n longest₀ j₀ longest j = n - j

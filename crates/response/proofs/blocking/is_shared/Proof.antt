@@ -9,16 +9,16 @@ use borrow.Author.Tests.{not-false}
 use lib.Dec.{T}
 use lib.ListN.{length}
 use Rattle.sets.specs.Choice.{true→T}
-use Rattle.taskset.specs.Refusals.{isIndependent}
+use Rattle.taskset.specs.Refusals.{usesNone}
 use Rattle.taskset.specs.Model.{taskAt}
 use Rattle.taskset.specs.Words.{tasksIn}
 use Rattle.taskset.specs.WordsLaws.{tasks-length}
-use Rattle.taskset.specs.RefusalLaws.{independent-at}
+use Rattle.taskset.specs.RefusalLaws.{none-used}
 use Rattle.response.proofs.blocking.is_shared.Statement.{statement}
 use Rattle.response.proofs.blocking.is_shared.Tie as tie
 
 abbrev Inv-loop : tie.InvT-loop
-Inv-loop rows n j₀ j = (j ≤ n) × ((q : ℕ) → q < j → T (isIndependent (taskAt (tasksIn rows) q)))
+Inv-loop rows n j₀ j = (j ≤ n) × ((q : ℕ) → q < j → T (usesNone (taskAt (tasksIn rows) q)))
 
 abbrev μ-loop : tie.MeasureT-loop
 μ-loop rows n j₀ j = n - j
@@ -39,16 +39,16 @@ loop-again c =
     let i = e .before .before in
     let tasks = tasksIn (i .before .before .before .args .rows .now) in
     let j = i .before .loop .j in
-    let free : T (isIndependent (taskAt tasks j)) =
-    true→T (isIndependent (taskAt tasks j))
-    (rw (← e .before .task-in .ensures) (sym (e .is-independent .ensures) ∙ not-false _ (c .if1 .left))) in
-    (omega arith, below-more (λ (q : ℕ). T (isIndependent (taskAt tasks q))) j (i .before .loop .inv .1) free)
+    let free : T (usesNone (taskAt tasks j)) =
+    true→T (usesNone (taskAt tasks j))
+    (rw (← e .before .task-in .ensures) (sym (e .uses-none .ensures) ∙ not-false _ (c .if1 .left))) in
+    (omega arith, below-more (λ (q : ℕ). T (usesNone (taskAt tasks q))) j (i .before .loop .inv .1) free)
 
 returns-2 : tie.Need-returns-2 Inv-loop μ-loop
 returns-2 c off j k h over known =
     let s = c .before .before .before in
     let long = tasks-length (s .args .rows .now) in
-    independent-at _ (c .before .loop .inv .1 j (omega arith)) k known
+    none-used _ (c .before .loop .inv .1 j (omega arith)) k known
 
 pub is-shared-spec : {M : Type 1} → statement M
 is-shared-spec =

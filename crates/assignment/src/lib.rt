@@ -264,10 +264,10 @@ pub fn fill_levels(
     let given = hints.given;
     let known = hints.known;
     let other = hints.other;
-    let start = from.left;
+    let mut search = from;
+    let start = search.left;
     let mut resources = resources_at(rows, start);
     let mut blocking = blocking_by(resources);
-    let mut search = from;
     while 0 < search.free {
         let left = search.left;
         let ready = ready(rules, active, left);

@@ -13,6 +13,9 @@ use Rattle.listing.specs.Listing.{levelLine, linesBelow}
 abbrev pub width : ℕ
 width = 3
 
+abbrev pub maxLevels : ℕ
+maxLevels = width * maxTasks
+
 abbrev pub maxNumbers : ℕ
 maxNumbers = width * maxRules
 

@@ -14,7 +14,7 @@ ghost use Rattle.assignment.specs.LateTasks.{unassignable};
 ghost use Rattle.verdict.specs.Verdict.{solving};
 ghost use Rattle.listing.specs.Listing.{ruleLine, linesBelow, lateLines, listingWith, outcome, shown, fitted, shownAs, listed, bufferAfter};
 ghost use Rattle.listing.specs.Gives.{Gives};
-ghost use Rattle.listing.specs.Numbers.{width, maxNumbers, lateWidth, maxLate, HasLines, levelLines};
+ghost use Rattle.listing.specs.Numbers.{width, maxLevels, maxNumbers, lateWidth, maxLate, HasLines, levelLines};
 use assignment::late_response;
 use lines::line_size;
 use lines::lines_size;
@@ -77,7 +77,7 @@ fn level_lines(
     numbers: &mut [u64],
 )
     requires { ⌜ n ≤ maxTasks ⌝ }
-    requires { ⌜ maxNumbers ≤ length (now numbers) ⌝ }
+    requires { ⌜ maxLevels ≤ length (now numbers) ⌝ }
     ensures { λ _. ⌜ HasLines width (levelLines order responses n) (now (numbers .exit)) ⌝ }
 {
     let mut k = 0;
@@ -175,7 +175,6 @@ pub fn show(decided: Decided, rows: &[u64], rules: &[u64], out: &mut [u8]) -> Sh
     ensures bytes { λ r. ⌜ now (out .exit) ≡ bufferAfter (fitted (length (now (out .entry)))
         (outcome (listsIn (now (rows .entry)) (now (rules .entry))) (decided .verdict))) (now (out .entry)) ⌝ }
 {
-    let mut numbers = [0u64; WIDTH * MAX_RULES];
     let verdict = decided.verdict;
     let answer = verdict.answer;
     match answer {
@@ -185,11 +184,13 @@ pub fn show(decided: Decided, rows: &[u64], rules: &[u64], out: &mut [u8]) -> Sh
             let order = verdict.order;
             let responses = verdict.responses;
             let late = [0u64; LATE_WIDTH];
+            let mut numbers = [0u64; WIDTH * MAX_TASKS];
             level_lines(order, responses, n, &mut numbers);
             write(b"order\t", &numbers[..WIDTH * n], &late[..0], out)
         }
         Answer::Core => {
             let mut late = [0u64; LATE_WIDTH * MAX_TASKS];
+            let mut numbers = [0u64; WIDTH * MAX_RULES];
             let core = verdict.core;
             let left = decided.left;
             let count = rule_lines(core, rules, &mut numbers);

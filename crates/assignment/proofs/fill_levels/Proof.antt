@@ -28,13 +28,13 @@ use Rattle.assignment.proofs.fill_levels.Statement.{statement}
 use Rattle.assignment.proofs.fill_levels.Tie as tie
 
 abbrev Inv-loop : tie.InvT-loop
-Inv-loop rows rules active given known other resources₀ blocking₀ search₀ resources blocking search =
+Inv-loop rows rules active given known other search₀ resources₀ blocking₀ search resources blocking =
     Going (problem (listsIn rows rules)) (marked active) (record { given = given; known = known; other = other }) search₀ search
     × Tracks (tasksIn rows) (marked (search .left)) resources
     × (blocking ≡ blockingBy resources)
 
 abbrev μ-loop : tie.MeasureT-loop
-μ-loop rows rules active given known other resources₀ blocking₀ search₀ resources blocking search = search .free
+μ-loop rows rules active given known other search₀ resources₀ blocking₀ search resources blocking = search .free
 
 -- where a level's turn stands, and where the search began
 abbrev start : tie.At-loop Inv-loop μ-loop → tie.Start Inv-loop μ-loop

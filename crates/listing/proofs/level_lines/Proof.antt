@@ -5,7 +5,7 @@ use Prim.Native.Nat.{_+_, _-_, _*_, _≤_}
 use native.Mathlib.Omega.{arith}
 use borrow.Author.Needs.{needs}
 use lib.ListN.{length}
-use Rattle.taskset.specs.Refusals.{maxRules}
+use Rattle.taskset.specs.Refusals.{maxTasks}
 use Rattle.listing.specs.Listing.{levelLine}
 use Rattle.listing.specs.Numbers.{width}
 use Rattle.listing.specs.NumbersLaws.{Written, written-none, written-room, written-in}
@@ -31,7 +31,7 @@ turn c = let put = c .before .before in put .before .before .before
 room : (c : tie.In-loop Inv-loop μ-loop) → let at = c .before .loop in width * at .k + width ≤ length (at .numbers)
 room c =
     let at = c .before .loop in
-    written-room (at .inv .1) maxRules (omega (arith, start c .pre .0)) (start c .pre .1) .1
+    written-room (at .inv .1) maxTasks (omega (arith, start c .pre .0)) (start c .pre .1) .1
 
 loop-holds : tie.Need-loop-holds Inv-loop μ-loop
 loop-holds c = (omega arith, written-none refl)

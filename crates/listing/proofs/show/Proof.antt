@@ -59,8 +59,8 @@ module _ (c : tie.After-level-lines) where
 
   levels-inside : (n ≤ maxRules) × (width * n ≤ length levels)
   levels-inside =
-      lines-inside (given begun) (verdict begun) (begun .pre .0) Order levels n (has-levels .0) (has-levels .1)
-      (omega (arith, c .level-lines .kept .1 .1 .1 .0))
+      let few : n ≤ maxTasks = omega (arith, tasks-length (now (begun .args .rows)), begun .pre .0 .tasks .few) in
+      (omega (arith, few), omega (arith, few, c .level-lines .kept .1 .1 .1 .0))
 
 -- and a core one for each rule in it
 module _ (c : tie.After-rule-lines) where

@@ -1,6 +1,6 @@
 -- What a search keeps up from level to level to know the blocking there: how many of the tasks left use each resource, and the
--- longest section on it of the others. At a level the tasks below are the same for each task left, and so are the resources that it
--- and the tasks above it use; so is its blocking. Assumes nothing.
+-- longest section on it of those that have a level. The tasks below a level are the same for each task left, and so are the
+-- resources that it and the tasks above it use; so is its blocking. Assumes nothing.
 use mathlib.Core.Path.{_≡_, refl, sym, ap, subst, _∙_}
 use mathlib.Core.Bool.{Bool, true, false, _&&_, not}
 use mathlib.Core.List.{List}

@@ -1,5 +1,5 @@
 // Blocking at a level, kept up from level to level: how many of the tasks left use each resource, and the longest section on it of
-// the others.
+// those that have a level.
 
 ghost use mathlib.Core.Path.{_≡_};
 ghost use mathlib.Core.Bool.{Bool, false};
@@ -73,7 +73,7 @@ fn used_resources(rows: &[u64]) -> usize
     0
 }
 
-// How many of the tasks left use a resource, and the longest section on it of the others.
+// How many of the tasks left use a resource, and the longest section on it of those that have a level.
 fn users_on(rows: &[u64], left: [bool; MAX_TASKS], resource: usize) -> u64
     requires { ⌜ length (tasksIn (now rows)) ≤ maxTasks ⌝ }
     requires { ⌜ resource < resources ⌝ }

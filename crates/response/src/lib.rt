@@ -29,7 +29,7 @@ use taskset::task_in;
 const SCALE: u64 = 4294967296;
 
 // What is kept at a level to know the blocking there: for each resource how many of the tasks left use it, and the longest section
-// on it of the others. No task uses a resource from `used` on.
+// on it of those that have a level. No task uses a resource from `used` on.
 pub struct Resources {
     pub used: usize,
     pub users: [u64; RESOURCES],

@@ -1,5 +1,7 @@
 // What a text gets: it is read, solved and listed, or refused.
 
+#![tactic(auto)]
+
 ghost use Rattle.std.specs.Prelude.{◌≡◌, ◌≤◌, length, take};
 ghost use Rattle.sets.specs.Onto.{onto};
 ghost use Rattle.listing.specs.Listing.{fitted, buffer_after, max_listing};
@@ -13,7 +15,7 @@ use text::read_words;
 use verdict::decide;
 
 // A refusal's number or 0, its line, which is 0 unless it is a line's own, and the listing's byte count.
-#[derive(Drop)]
+#[derive(Clone, Copy)]
 pub struct Answered {
     pub refusal: u64,
     pub line: u64,

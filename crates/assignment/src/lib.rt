@@ -1,5 +1,7 @@
 // The revised Audsley assignment: levels filled from the lowest upward, for any active rules; and the response of a task left.
 
+#![tactic(auto)]
+
 ghost use Rattle.std.specs.Prelude.{◌≡◌, false, ◌↔◌, ◌≤◌, ◌<◌, length};
 ghost use Rattle.sets.specs.Bounded.{without};
 ghost use Rattle.sets.specs.Marks.{first, marked};
@@ -23,7 +25,7 @@ use taskset::{
 };
 
 // Who takes a level, with its response there.
-#[derive(Drop)]
+#[derive(Clone, Copy)]
 pub enum Choice {
     Takes(TaskIndex, u64),
     Nobody,
@@ -31,7 +33,7 @@ pub enum Choice {
 
 // A search: a task's index and its response for each priority level, highest first, of which the first `free` are not filled
 // yet; and the tasks left without a level.
-#[derive(Drop)]
+#[derive(Clone, Copy)]
 pub struct Search {
     pub order: [TaskIndex; MAX_TASKS],
     pub responses: [u64; MAX_TASKS],
@@ -41,7 +43,7 @@ pub struct Search {
 
 // What spares a search responses, where it is given: tasks known to meet their deadline with the others left above them, and
 // another search, whose responses are not read. The levels then go to any task that may take them.
-#[derive(Drop)]
+#[derive(Clone, Copy)]
 pub struct Hints {
     pub given: bool,
     pub known: [bool; MAX_TASKS],

@@ -1,5 +1,7 @@
 // Bytes of lines: a line and its fields found in a text, numbers read from digits, and lines written.
 
+#![tactic(auto)]
+
 pub mod reader;
 
 ghost use Rattle.std.specs.Prelude.{◌≡◌, List, ℕ, ◌+◌, ◌*◌, ◌<◌, ◌≤◌, length, drop};
@@ -17,7 +19,7 @@ pub const FEED: u8 = 10;
 const MAX_FRONT: u64 = 999_999;
 
 // What a field's bytes are: 1 to 7 digits with no leading zero, and where they end; or no number.
-#[derive(Drop)]
+#[derive(Clone, Copy)]
 pub enum Number {
     Value(u64, usize),
     Malformed,
@@ -135,7 +137,8 @@ pub fn put_line(out: &mut [u8], head: &[u8], numbers: &[u64]) -> usize
     ensures value { result ≡ length (line head.now numbers.now) }
     ensures written { out.new ≡ onto (line head.now numbers.now) out.old }
 {
-    let mut at = bytes::copy(head, out);
+    out[..head.len()].copy_from_slice(head);
+    let mut at = head.len();
     let mut k = 0;
     while k + 1 < numbers.len() {
         at += write_number(&mut out[at..], numbers[k], TAB);

@@ -7,7 +7,7 @@ ghost use Rattle.lines.specs.Parts.{up_to};
 
 use crate::FEED;
 
-#[derive(Drop)]
+#[derive(Clone, Copy)]
 pub struct Reader<'a> {
     pub text: &'a [u8],
     pub at: usize,

@@ -1,5 +1,7 @@
 // Listing a verdict: its order, or its core with the late tasks under an empty one, is written into a lent buffer, a line at a time.
 
+#![tactic(auto)]
+
 ghost use Rattle.std.specs.Prelude.{◌≡◌, ◌+◌, ◌≤◌, length};
 ghost use Rattle.std.proofs.lemmas.List.Edits.{sets};
 ghost use Rattle.sets.specs.Marks.{marked};
@@ -33,14 +35,14 @@ const WIDTH: usize = 3;
 const LATE_WIDTH: usize = 2;
 
 // What showing a verdict answers: a refusal's number or 0, and the listing's byte count.
-#[derive(Drop)]
+#[derive(Clone, Copy)]
 pub struct Shown {
     pub refusal: u64,
     pub count: usize,
 }
 
 // What listing a set answers: the same, and the set, as it was.
-#[derive(Drop)]
+#[derive(Clone, Copy)]
 pub struct Listed {
     pub shown: Shown,
     pub set: TaskSet,

@@ -1,5 +1,7 @@
 // Standard input to a listing, or one line `bad`, line, number. A failed read or write is told on standard error.
 
+#![tactic(auto)]
+
 ghost use Rattle.std.specs.Prelude.{◌≡◌};
 ghost use Rattle.orders.specs.Input.{input_of, InFront};
 
@@ -10,7 +12,7 @@ use text::MAX_TEXT;
 const ROOM: usize = MAX_TEXT + 1;
 
 // So many bytes at the front of a buffer, or a read that failed.
-#[derive(Drop)]
+#[derive(Clone, Copy)]
 enum Input {
     Bytes(usize),
     Failed,

@@ -1,5 +1,7 @@
 // The one call for host tools written in C; include/orders.h is its declaration.
 
+#![tactic(auto)]
+
 ghost use Rattle.std.specs.Prelude.{◌≡◌, length};
 ghost use Rattle.listing.specs.Listing.{fitted, buffer_after};
 ghost use Rattle.answer.specs.Answer.{answer_to, host_number};

@@ -1,5 +1,7 @@
 // Demand 3's program: a list of adding calls from a fresh task set, and solving at the end.
 
+#![tactic(auto)]
+
 ghost use Rattle.std.specs.Prelude.{◌≡◌, ◌≤◌, length};
 ghost use Rattle.taskset.specs.Model.{no_lists, heard};
 ghost use Rattle.taskset.specs.Adding.{fresh_set, add, run};

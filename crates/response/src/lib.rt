@@ -1,5 +1,7 @@
 // The response-time search of document 01: demand, response window, response; and up to the period, by document 02, (b).
 
+#![tactic(auto)]
+
 mod blocking;
 
 ghost use Rattle.std.specs.Prelude.{◌≡◌, ◌+◌, ◌^◌, ◌≤◌, ◌<◌, length, take};
@@ -20,7 +22,7 @@ const SCALE: u64 = 4294967296;
 
 // What is kept at a level to know the blocking there: for each resource how many of the tasks left use it, and the longest section
 // on it of those that have a level. No task uses a resource from `used` on.
-#[derive(Drop)]
+#[derive(Clone, Copy)]
 pub struct Resources {
     pub used: usize,
     pub users: [u64; RESOURCES],
@@ -28,7 +30,7 @@ pub struct Resources {
 }
 
 // What a climb goes over: a base, how many tasks beside it, and the demand of both at 1.
-#[derive(Drop)]
+#[derive(Clone, Copy)]
 pub struct Load {
     pub base: u64,
     pub count: usize,
@@ -36,28 +38,28 @@ pub struct Load {
 }
 
 // What a task adds to a bound, in parts of SCALE: once, and for each microsecond of the window.
-#[derive(Drop)]
+#[derive(Clone, Copy)]
 pub struct Part {
     pub fixed: u64,
     pub rate: u64,
 }
 
 // The response window of a task, or that none lies within the room there is.
-#[derive(Drop)]
+#[derive(Clone, Copy)]
 pub enum Window {
     At(u64),
     Beyond,
 }
 
 // The response of a task, or that none lies within the limit.
-#[derive(Drop)]
+#[derive(Clone, Copy)]
 pub enum Response {
     Within(u64),
     Late,
 }
 
 // The response of a task up to its period: one that meets its deadline, one that misses it, or that none lies within the period.
-#[derive(Drop)]
+#[derive(Clone, Copy)]
 pub enum Timing {
     Met(u64),
     Missed(u64),

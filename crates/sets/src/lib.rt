@@ -1,5 +1,7 @@
 // Definitions and laws in specs/, and two functions that go with them.
 
+#![tactic(auto)]
+
 ghost use Rattle.std.specs.Prelude.{◌≡◌, max};
 ghost use Rattle.sets.specs.Choice.{pick};
 

@@ -2,7 +2,7 @@
 -- the entry alone. Assumes nothing.
 use Rattle.std.specs.Prelude.{◌≡◌, refl, Bool, true, false, ◌↔◌, List, [], ◌∷◌, ◌++◌, ℕ, zero, suc, ◌-◌, ◌≤◌, ◌<◌, T, ltb, leb, eqb}
 use Rattle.std.proofs.Common.{sym, ◌∙◌, suc-ne-zero, le_trans, arith, ltb→lt, leb→le, eqb→eq}
-use Rattle.std.proofs.Math.Logic.{Iff·trans, Iff·and}
+use mathlib.Core.Logic.Iff
 use borrow.Author.Tests.{ltb-false, leb-false, eqb-false, le-ltb, le-leb, lt-leb, ne_eqb, eq-eqb}
 use Rattle.sets.specs.Choice.{pick, pick-le, true→T, or_false_left, or_false_right}
 use Rattle.sets.specs.Bounded.{every, all_at}
@@ -185,11 +185,11 @@ module _ (n m : ℕ) {c : Call} {r : Rule} (e : c ≡ AddRule r) {k : ℕ} (f : 
 pub taken_exactly : (n m : ℕ) (c : Call) → (refusal_by n m c ≡ 0) ↔ (Acceptable n c × Room n m c)
 unfolding refusal_by
 taken_exactly n m (AddTask t) =
-    Iff·trans (append_exactly (row_refusals t) (full_if 10 max_tasks n) (row_numbered t))
-    (Iff·and (row_exactly t) (full_exactly 10 max_tasks n tt))
+    Iff.trans (append_exactly (row_refusals t) (full_if 10 max_tasks n) (row_numbered t))
+    (Iff.and (row_exactly t) (full_exactly 10 max_tasks n tt))
 taken_exactly n m (AddRule r) =
-    Iff·trans (append_exactly (index_refusals n r) (full_if 12 max_rules m) (index_numbered n r))
-    (Iff·and (index_exactly n r) (full_exactly 12 max_rules m tt))
+    Iff.trans (append_exactly (index_refusals n r) (full_if 12 max_rules m) (index_numbered n r))
+    (Iff.and (index_exactly n r) (full_exactly 12 max_rules m tt))
 
 -- the check of 14 counts the entry alone
 pub task_counted : (n m : ℕ) (t : Task) → entry_fits n m (AddTask t) ≡ eqb (first_of (row_refusals t)) 0

@@ -1,5 +1,7 @@
 // Task sets: document 01's sheet, with adding a task and a rule, and refusal 14.
 
+#![tactic(auto)]
+
 mod words;
 
 ghost use Rattle.std.specs.Prelude.{◌≡◌, true, ◌↔◌};
@@ -25,15 +27,15 @@ pub const MAX_PERIOD: u64 = 1000000;
 pub const RESOURCES: usize = 8;
 
 // A task's place in its set, counted from 0 in the order of adding.
-#[derive(Drop)]
+#[derive(Clone, Copy)]
 pub struct TaskIndex(pub usize);
 
 // A priority level: 0 is the highest.
-#[derive(Drop)]
+#[derive(Clone, Copy)]
 pub struct PriorityLevel(pub usize);
 
 // The length of a task's critical section on each of the resources; 0 where it does not use the resource.
-#[derive(Drop)]
+#[derive(Clone, Copy)]
 pub struct Sections {
     pub r0: u64,
     pub r1: u64,
@@ -46,7 +48,7 @@ pub struct Sections {
 }
 
 // A row, in whole microseconds.
-#[derive(Drop)]
+#[derive(Clone, Copy)]
 pub struct Task {
     pub period: u64,
     pub execution: u64,
@@ -56,7 +58,7 @@ pub struct Task {
 }
 
 // The task `higher` has a higher priority than the task `lower`.
-#[derive(Drop)]
+#[derive(Clone, Copy)]
 pub struct Rule {
     pub higher: TaskIndex,
     pub lower: TaskIndex,
@@ -86,7 +88,7 @@ const BLANK_RULE: Rule = Rule {
 };
 
 // Document 01's sheet: the first ntasks tasks and the first nrules rules are used, the others are all zeros.
-#[derive(Drop)]
+#[derive(Clone, Copy)]
 pub struct TaskSet {
     pub tasks: [Task; MAX_TASKS],
     pub ntasks: usize,
@@ -95,14 +97,14 @@ pub struct TaskSet {
 }
 
 // The arguments of an adding call, its task set aside.
-#[derive(Drop)]
+#[derive(Clone, Copy)]
 pub enum Call {
     AddTask(Task),
     AddRule(Rule),
 }
 
 // What an adding call answers: the refusal's number, 0 where it is taken, and the set after the call.
-#[derive(Drop)]
+#[derive(Clone, Copy)]
 pub struct Added {
     pub refusal: u64,
     pub set: TaskSet,

@@ -1,5 +1,7 @@
 // Texts: a line's fields, what a line asks, and reading a text into words or into a fresh task set.
 
+#![tactic(auto)]
+
 ghost use Rattle.std.specs.Prelude.{◌≡◌, ◌*◌, ◌≤◌, length, take, drop};
 ghost use Rattle.taskset.specs.Words.{task_size, rule_size, lists_in, max_task_words, max_rule_words};
 ghost use Rattle.lines.specs.Decimal.{tab};
@@ -18,14 +20,14 @@ pub const MAX_TEXT: usize = 16384;
 const UNREADABLE: u64 = 7;
 
 // A line that was read: what it asks, or no line at all.
-#[derive(Drop)]
+#[derive(Clone, Copy)]
 pub enum Line {
     Asks(Call),
     Unreadable,
 }
 
 // What reading into words gives: a refusal's number or 0, its line, and how many tasks and rules stand in the words.
-#[derive(Drop)]
+#[derive(Clone, Copy)]
 pub struct Counts {
     pub refusal: u64,
     pub line: u64,
@@ -34,7 +36,7 @@ pub struct Counts {
 }
 
 // What reading a text gives: 0, line 0 and the set; or a refusal's number, its line counted from 1, and an empty set.
-#[derive(Drop)]
+#[derive(Clone, Copy)]
 pub struct Reading {
     pub refusal: u64,
     pub line: u64,
@@ -42,7 +44,7 @@ pub struct Reading {
 }
 
 // The numbers of a line's fields, and how many they are; none where a field is no number, or where they are too many.
-#[derive(Drop)]
+#[derive(Clone, Copy)]
 pub struct Numbers {
     pub values: [u64; TASK_WORDS],
     pub count: usize,

@@ -1,5 +1,7 @@
 // Texts parted by form feeds on standard input, and what `orders` writes for each, one after the other.
 
+#![tactic(auto)]
+
 ghost use Rattle.std.specs.Prelude.{◌+◌, ◌≤◌, ◌<◌, length};
 
 use listing::MAX_LISTING;

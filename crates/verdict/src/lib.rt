@@ -1,5 +1,7 @@
 // Solving a task set: a priority order with its responses, or an unschedulability core.
 
+#![tactic(auto)]
+
 ghost use Rattle.std.specs.Prelude.{◌≡◌, ◌≤◌, ◌<◌, length};
 ghost use Rattle.sets.specs.Bounded.{without};
 ghost use Rattle.sets.specs.Marks.{first, marked};
@@ -23,7 +25,7 @@ use taskset::{
 };
 
 // How solving ends: refused by a number, with an order, or with a core.
-#[derive(Drop)]
+#[derive(Clone, Copy)]
 pub enum Answer {
     Refused(u64),
     Order,
@@ -31,7 +33,7 @@ pub enum Answer {
 }
 
 // What solving finds: the order's task indices with their responses, highest level first, and the core's marks by rule.
-#[derive(Drop)]
+#[derive(Clone, Copy)]
 pub struct Verdict {
     pub answer: Answer,
     pub order: [TaskIndex; MAX_TASKS],
@@ -40,14 +42,14 @@ pub struct Verdict {
 }
 
 // A verdict on two lists, and the tasks left without a level where no rule is active.
-#[derive(Drop)]
+#[derive(Clone, Copy)]
 pub struct Decided {
     pub verdict: Verdict,
     pub left: [bool; MAX_TASKS],
 }
 
 // What solving a set hands over: the verdict, and the set as it was.
-#[derive(Drop)]
+#[derive(Clone, Copy)]
 pub struct Solved {
     pub verdict: Verdict,
     pub set: TaskSet,
@@ -55,7 +57,7 @@ pub struct Solved {
 
 // A core being cut down: the rules still in it, where the search with them got stuck, the tasks known to meet their deadline
 // with the others left there above them, and the last search that found an order.
-#[derive(Drop)]
+#[derive(Clone, Copy)]
 pub struct Cut {
     pub active: [bool; MAX_RULES],
     pub stuck: Search,
@@ -64,7 +66,7 @@ pub struct Cut {
 }
 
 // Why there is no order: the core, and the tasks left without a level where no rule is active.
-#[derive(Drop)]
+#[derive(Clone, Copy)]
 pub struct Unschedulable {
     pub core: [bool; MAX_RULES],
     pub left: [bool; MAX_TASKS],

@@ -3,10 +3,10 @@ use mathlib.Core.List.{[], ◌∷◌}
 use denote.Laws.{Is}
 use denote.Struct.Laws.{val}
 use Rattle.taskset.specs.declared.TaskSet.{TaskSet}
-use Rattle.taskset.specs.Passing.{Sized, sized_by}
+use Rattle.taskset.specs.Passing.{Sized}
 use Rattle.taskset.specs.contracts.TaskSet.{the_type, the_row}
 use Rattle.taskset.proofs.TaskSet.TheLaws.{the_laws}
 
--- of a parameter s that stands first, `sized s c.good.0`
+-- of a parameter s that stands first, `sized s c.well_formed.0`
 pub sized : (s : TaskSet) → Is the_row s (val the_type the_laws s ∷ []) → Sized s
-sized s is = sized_by _ _ s is.1.1.0.1.0.1 is.1.1.1.1.0.1.0.1
+sized s is = (is.1.1.0.1.0.1, is.1.1.1.1.0.1.0.1)

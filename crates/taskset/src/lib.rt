@@ -111,6 +111,7 @@ pub struct Added {
 }
 
 // The length of a task's section on a resource.
+#[tactic(auto, unfolding(crate::specs::Refusals::section_on))]
 fn section_on(t: Task, resource: usize) -> u64
     ensures { result ≡ section_on t resource }
 {
@@ -142,6 +143,7 @@ fn longest_section(t: Task) -> u64
 }
 
 // A task that uses no resource.
+#[tactic(auto, unfolding(crate::specs::Refusals::uses_none, crate::specs::Refusals::section_on, sets::specs::Bounded::all))]
 pub fn uses_none(t: Task) -> bool
     ensures { result ≡ uses_none t }
 {
@@ -158,6 +160,7 @@ fn outside(low: u64, high: u64, x: u64) -> bool
 }
 
 // The first of refusals 1 to 5 that a row meets, 0 where it meets none.
+#[tactic(auto, unfolding(crate::specs::Refusals::row_refusals))]
 fn row_refusal(t: Task) -> u64
     ensures { result ≡ first_of (row_refusals t) }
 {
@@ -181,6 +184,7 @@ fn row_refusal(t: Task) -> u64
 }
 
 // The first of refusals 6 and 11 that a rule meets in a set of n tasks, 0 where it meets none.
+#[tactic(auto, unfolding(crate::specs::Refusals::index_refusals))]
 fn index_refusal(n: usize, r: Rule) -> u64
     ensures { result ≡ first_of (index_refusals n r) }
 {
@@ -237,6 +241,7 @@ fn is_blank_rule(r: Rule) -> bool
 }
 
 // An entry of the task list: a row that adding takes where it is used, all zeros where it is not.
+#[tactic(auto, using(crate::specs::RefusalLaws::task_counted), unfolding(crate::specs::Adding::task_fits))]
 fn task_fits(n: usize, m: usize, used: bool, t: Task) -> bool
     ensures { result ≡ task_fits n m used t }
 {
@@ -246,6 +251,7 @@ fn task_fits(n: usize, m: usize, used: bool, t: Task) -> bool
     is_blank_task(t)
 }
 
+#[tactic(auto, using(crate::specs::RefusalLaws::rule_counted), unfolding(crate::specs::Adding::rule_fits))]
 fn rule_fits(n: usize, m: usize, used: bool, r: Rule) -> bool
     ensures { result ≡ rule_fits n m used r }
 {

@@ -1,5 +1,4 @@
 // A reader: it stands over a text with a byte position, and hands on the line there as its own stretch of the text.
-// The borrow checker covers no function over a struct that holds a reference, so each is proved by hand.
 
 ghost use Rattle.std.specs.Prelude.{◌≡◌, drop};
 ghost use Rattle.lines.specs.Decimal.{feed};
@@ -27,7 +26,7 @@ pub fn line<'a>(r: Reader<'a>) -> &'a [u8]
     crate::stretch(r.text, r.at, FEED)
 }
 
-// The same of a plain slice and a number, so that a caller needs no proof by hand.
+// The same of a plain slice and a number.
 pub fn line_from<'a>(text: &'a [u8], at: usize) -> &'a [u8]
     ensures { result.now ≡ up_to feed (drop at text.now) }
 {

@@ -11,9 +11,6 @@ pub loop-w-init : goal.loop-w-init
 loop-w-init c =
     let b = start_bounds _ _ _ _ c.requires.load.low c.requires.start_value in record { low = b.0; rounds = omega arith; bounds = b.1 }
 
-pub next-w-requires-clause-bounds_2 : goal.next-w-requires-clause-bounds_2
-next-w-requires-clause-bounds_2 c = c.loop-w.invariant.bounds
-
 pub next-w-requires-clause-bounds_3 : goal.next-w-requires-clause-bounds_3
 next-w-requires-clause-bounds_3 c =
     subst (Bounds _) (sym c.load_demand-needed.ensures) (climb _ (load_mono _ _ _) _ c.loop-w.invariant.bounds)

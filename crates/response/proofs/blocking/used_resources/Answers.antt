@@ -7,9 +7,6 @@ use Rattle.response.proofs.blocking.used_resources.Goals as goal
 pub loop-used-init : goal.loop-used-init
 loop-used-init c = record { in_range = omega arith; rest = unused_none (tasks_in c.args.rows.now) }
 
-pub returns-then-is_used-clause-unused : goal.returns-then-is_used-clause-unused
-returns-then-is_used-clause-unused c = c.loop-used.invariant.rest
-
 pub loop-used-preserved : goal.loop-used-preserved
 loop-used-preserved c =
     record {

@@ -44,7 +44,7 @@ pub loop-tried-preserved-in_default : goal.loop-tried-preserved-in_default
 loop-tried-preserved-in_default c =
     let rows = c.args.rows.now in
     let late =
-        candidate-ready (response_at (tasks_in rows)) (marked c.args.ready) (marked c.args.left) _ c.if-ready-i.true c.in_default.ensures.value
+    candidate-ready (response_at (tasks_in rows)) (marked c.args.ready) (marked c.args.left) _ c.if-ready-i.true c.in_default.ensures.value
     in
     record {
       in_range = omega arith;

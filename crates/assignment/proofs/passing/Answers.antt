@@ -39,12 +39,12 @@ loop-j-preserved c =
     let at = c.loop-j in
     let inside : at.j < length at.known = omega (arith, tasks_count _ c.requires, at.invariant.long) in
     let marks : Marked c.args.rows.now c.args.left c.if-left-j.known =
-        elim c.if-left-j.branch [
-          then-left-j w ↦ subst (Marked c.args.rows.now c.args.left) (sym w.known-is) (
-            length-set at.known at.j _ ∙ at.invariant.long,
-            known_more _ _ at.known at.j inside _ w.passes.ensures at.invariant.known,
-          )
-        | else-left-j w ↦ subst (Marked c.args.rows.now c.args.left) (sym w.known-is) (at.invariant.long, at.invariant.known)
-        ]
+    elim c.if-left-j.branch [
+      | then-left-j w ↦ subst (Marked c.args.rows.now c.args.left) (sym w.known-is) (
+        length-set at.known at.j _ ∙ at.invariant.long,
+        known_more _ _ at.known at.j inside _ w.passes.ensures at.invariant.known,
+      )
+      | else-left-j w ↦ subst (Marked c.args.rows.now c.args.left) (sym w.known-is) (at.invariant.long, at.invariant.known)
+    ]
     in
     record { in_range = omega arith; long = marks.0; known = marks.1 }

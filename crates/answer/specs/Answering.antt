@@ -13,7 +13,7 @@ use Rattle.verdict.specs.declared.Verdict.{Verdict}
 use Rattle.verdict.specs.Verdict.{deciding}
 use Rattle.listing.specs.declared.Shown.{Shown}
 use Rattle.listing.specs.Listing.{listing, Outcome, refused, shown, outcome, fitted, shown_as, buffer_after, max_listing}
-use Rattle.listing.specs.GivesLaws.{RefusedOrListed, refusal, verdict}
+use Rattle.listing.proofs.GivesLaws.{RefusedOrListed, refusal, verdict}
 use Rattle.answer.specs.declared.Answered.{Answered}
 use Rattle.answer.specs.Answer.{answer_to, line_of, answered, host_number, bad, bad_line, printed, report, max_bad}
 use Rattle.answer.specs.Host.{heard_in, TextGives, HostGets}

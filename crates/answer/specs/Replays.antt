@@ -20,8 +20,8 @@ use Rattle.replay.specs.Calls.{calls_in, call_words, Words, Asked}
 use Rattle.replay.specs.Replaying.{every_list}
 use Rattle.replay.specs.Theorem.{replay_decides}
 use Rattle.listing.specs.Listing.{listing, Outcome, refused, shown, shown_as, outcome, fitted, buffer_after, max_listing}
-use Rattle.listing.specs.GivesLaws.{RefusedOrListed, refusal, verdict, fitted_either, decided_shown, decided_either, either_gives}
-use Rattle.listing.specs.Short.{deciding_short}
+use Rattle.listing.proofs.GivesLaws.{RefusedOrListed, refusal, verdict, fitted_either, decided_shown, decided_either, either_gives}
+use Rattle.listing.proofs.Short.{deciding_short}
 use Rattle.answer.specs.declared.Answered.{Answered}
 use Rattle.answer.specs.Answer.{answer_to, line_of, answered}
 use Rattle.answer.specs.Host.{heard_in, TextGives}

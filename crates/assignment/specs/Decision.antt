@@ -11,7 +11,7 @@ use Rattle.std.proofs.Math.ListN.{length}
 use Rattle.sets.specs.Choice.{option, true→T, not→refuted, refuted→not, decided, lt_or_le, and_intro, and_left, and_right}
 use Rattle.sets.specs.Bounded.{Subset, without, without_still, without_other, all, all_at, all_of}
 use Rattle.sets.specs.Bounded.{greatest, IsGreatest, Greatest, found, nothing, greatest_is, count, count-some}
-use Rattle.sets.specs.Rank.{rank, get_d_rank}
+use Rattle.sets.specs.Rank.{rank, get_or-rank}
 use Rattle.taskset.specs.declared.Rule.{Rule}
 use Rattle.taskset.specs.Model.{rule_at}
 use Rattle.assignment.specs.Orders.{IsOrder, Valid, no_rule}
@@ -86,7 +86,7 @@ module _ (p : Problem) (active : ℕ → Bool) where
       without_other (unassigned p.tasks rest) i j still.1
       (unassigned_of p.tasks rest j l (λ m.
       let at = suc k + rank rest j in
-      let same : get_or low at 0 ≡ j = sym (get_or-drop (suc k) low (rank rest j) 0) ∙ get_d_rank rest j m in
+      let same : get_or low at 0 ≡ j = sym (get_or-drop (suc k) low (rank rest j) 0) ∙ get_or-rank rest j m in
       out at (omega arith) (omega (arith, m, length-drop (suc k) low)) (subst (λ (q : ℕ). T (left q)) (sym same) still.0))))
       (test_may (unassigned p.tasks rest) i (filled_at low f k h)).meets
 
@@ -123,7 +123,7 @@ module _ (p : Problem) (active : ℕ → Bool) where
     left_by_rank_lem : (j : ℕ) → T (unassigned p.tasks low j) → (rank order j < length order) × T (left_by_rank (rank order j))
     left_by_rank_lem j t =
         let here = v.is_order.every j (unassigned_is p.tasks low j t).0 in
-        (here, subst (λ (i : ℕ). T (unassigned p.tasks low i)) (sym (get_d_rank order j here)) t)
+        (here, subst (λ (i : ℕ). T (unassigned p.tasks low i)) (sym (get_or-rank order j here)) t)
 
     last_may : (r : ℕ) → IsGreatest (length order) left_by_rank r → T (may_take p active (unassigned p.tasks low) (get_or order r 0))
     last_may r g =

@@ -8,7 +8,7 @@ use native.Mathlib.Omega.{arith}
 use Rattle.std.proofs.Math.Dec.{leb, leb→le, ltb→lt, leb-suc-suc, leb-suc-zero}
 use Rattle.sets.specs.Choice.{pick, refuted→false, decided, lt_or_le, same_test, and_intro, and_left, and_right}
 use Rattle.sets.specs.Bounded.{Subset, without, without_still, without_other, count, count_less, count_but, count_whole, count-some, count_pos}
-use Rattle.sets.specs.Rank.{rank, Member, Distinct, get_d_rank, rank_get_d, drop-rank, rank-drop, distinct_head, distinct_tail, distinct_cons}
+use Rattle.sets.specs.Rank.{rank, Member, Distinct, get_or-rank, rank-get_or, drop-rank, rank-drop, distinct_head, distinct_tail, distinct_cons}
 use Rattle.taskset.specs.declared.Rule.{Rule}
 use Rattle.taskset.specs.Model.{rule_at}
 use Rattle.assignment.specs.Orders.{IsOrder, hp, Valid}
@@ -121,7 +121,7 @@ module _ {n : ℕ} {order : List ℕ} (is : IsOrder n order) where
       one j t =
           let early = leb→le (rank order j) k t in
           let member : Member order j = omega arith in
-          unassigned_of n rest j (omega (arith, get_d_rank order j member, is.only (rank order j) member))
+          unassigned_of n rest j (omega (arith, get_or-rank order j member, is.only (rank order j) member))
           (λ m. omega (arith, drop-rank order is.once (suc k) j m))
 
       other : (j : ℕ) → T (unassigned n rest j) → T (left_at order k j)
@@ -138,7 +138,7 @@ module _ {n : ℕ} {order : List ℕ} (is : IsOrder n order) where
       i = get_or order k 0
 
       at : rank order i ≡ k
-      at = rank_get_d order is.once k h
+      at = rank-get_or order is.once k h
 
       one : (j : ℕ) → T (hp order i j) → T (without (left_at order k) i j)
       one j t =
@@ -150,7 +150,7 @@ module _ {n : ℕ} {order : List ℕ} (is : IsOrder n order) where
           let still = without_still (left_at order k) i j t in
           let early = leb→le (rank order j) k still.0 in
           lt→ltb (rank order j) (rank order i)
-          (⊎_elim (λ e. absurd (still.1 (ap (λ (q : ℕ). get_or order q 0) (sym e) ∙ get_d_rank order j (omega arith))))
+          (⊎_elim (λ e. absurd (still.1 (ap (λ (q : ℕ). get_or order q 0) (sym e) ∙ get_or-rank order j (omega arith))))
           (λ l. omega (arith, at, l))
           (eq-or-lt_of_le early))
 
@@ -168,7 +168,7 @@ module _ {n : ℕ} {order : List ℕ} (is : IsOrder n order) where
     pub valid_each : Valid n rules Meets active order → EachMayTake rules Meets active order
     valid_each v k h =
         let i = get_or order k 0 in
-        let at = rank_get_d order is.once k h in
+        let at = rank-get_or order is.once k h in
         record {
           is_left = le→leb (rank order i) k (omega (arith, at));
           below = λ m inside on e t.
@@ -188,10 +188,10 @@ module _ {n : ℕ} {order : List ℕ} (is : IsOrder n order) where
               ⊎_elim (λ first. first)
               (λ late.
               absurd
-              ((each (rank order u) here).below m inside on (sym (get_d_rank order u here)) (le→leb (rank order l) (rank order u) late)))
+              ((each (rank order u) here).below m inside on (sym (get_or-rank order u here)) (le→leb (rank order l) (rank order u) late)))
               (lt_or_le (rank order u) (rank order l));
           meets = λ i h.
               let here = is.every i h in
-              subst (λ (j : ℕ). Meets j (hp order j)) (get_d_rank order i here)
+              subst (λ (j : ℕ). Meets j (hp order j)) (get_or-rank order i here)
               (subst (Meets (get_or order (rank order i) 0)) (sym (before_left (rank order i) here)) (each (rank order i) here).meets);
         }

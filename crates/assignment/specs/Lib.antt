@@ -5,12 +5,9 @@ pub mod LateTasks
 pub mod Search
 pub mod Levels
 pub mod Decision
-pub mod CanonicalLaws
 pub mod Ready
 pub mod Filling
 pub mod OrderBlocking
 pub mod OrderBlockingLaws
-pub mod Preemptive
-pub mod LateLaws
 pub mod Hints
 pub mod Going

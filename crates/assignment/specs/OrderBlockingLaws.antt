@@ -2,12 +2,12 @@
 use Rattle.std.specs.Prelude.{◌≡◌, refl, List, ℕ, ◌<◌, T, length, get_or}
 use Rattle.std.proofs.Common.{sym, ap, ◌∙◌, inl, inr, ⊎_elim, eq-or-lt_of_le, arith, ltb→lt, lt→ltb}
 use Rattle.sets.specs.Choice.{lt_or_le}
-use Rattle.sets.specs.Rank.{rank, get_d_rank}
+use Rattle.sets.specs.Rank.{rank, get_or-rank}
 use Rattle.taskset.specs.declared.Task.{Task}
 use Rattle.taskset.specs.Refusals.{section_on}
 use Rattle.taskset.specs.Model.{task_at}
 use Rattle.response.specs.Blocking.{IsBlocking, blocking_of}
-use Rattle.response.specs.BlockingLaws.{blocking_exactly, blocking_lowest}
+use Rattle.response.proofs.BlockingLaws.{blocking_exactly, blocking_lowest}
 use Rattle.assignment.specs.Orders.{IsOrder, hp}
 use Rattle.assignment.specs.OrderBlocking.{OrderBlocking}
 use Rattle.assignment.specs.Levels.{order-length}
@@ -15,7 +15,7 @@ use Rattle.assignment.specs.Levels.{order-length}
 module _ (tasks : List Task) {order : List ℕ} (is : IsOrder (length tasks) order) where
   -- two tasks have two ranks
   apart : (i j : ℕ) → i < length tasks → j < length tasks → rank order i ≡ rank order j → i ≡ j
-  apart i j h l e = sym (get_d_rank order i (is.every i h)) ∙ ap (λ (k : ℕ). get_or order k 0) e ∙ get_d_rank order j (is.every j l)
+  apart i j h l e = sym (get_or-rank order i (is.every i h)) ∙ ap (λ (k : ℕ). get_or order k 0) e ∙ get_or-rank order j (is.every j l)
 
   -- of two tasks the one that does not stand before the other stands after it
   after : (i j : ℕ) → i < length tasks → j < length tasks → (T (hp order i j) → ⊥) → (j ≡ i → ⊥) → rank order i < rank order j

@@ -2,10 +2,6 @@ pub mod Blocking
 pub mod Equation
 pub mod Load
 pub mod Agreement
-pub mod BlockingLaws
 pub mod Resources
 pub mod Timing
 pub mod TimingLaws
-pub mod Demand
-pub mod Gather
-pub mod Leap

@@ -65,10 +65,10 @@ pub length-table : {A : Type 0} (n : ℕ) (f : ℕ → A) → length (table n f)
 length-table zero f = refl
 length-table (suc n) f = ap suc (length-table n (λ j. f (suc j)))
 
-pub get_d_table : {A : Type 0} (n : ℕ) (f : ℕ → A) (d : A) (k : ℕ) → k < n → get_or (table n f) k d ≡ f k
-get_d_table zero f d k h = absurd (not-suc-le-zero h)
-get_d_table (suc n) f d zero h = refl
-get_d_table (suc n) f d (suc k) h = get_d_table n (λ j. f (suc j)) d k (le_of_suc-le-suc h)
+pub get_or-table : {A : Type 0} (n : ℕ) (f : ℕ → A) (d : A) (k : ℕ) → k < n → get_or (table n f) k d ≡ f k
+get_or-table zero f d k h = absurd (not-suc-le-zero h)
+get_or-table (suc n) f d zero h = refl
+get_or-table (suc n) f d (suc k) h = get_or-table n (λ j. f (suc j)) d k (le_of_suc-le-suc h)
 
 -- an array of marks that has those of A, and none from m on
 pub table_is : (n m : ℕ) (A : ℕ → Bool) (marks : List Bool) → length marks ≡ n → m ≤ n → marked marks ≡ A
@@ -77,7 +77,7 @@ pub table_is : (n m : ℕ) (A : ℕ → Bool) (marks : List Bool) → length mar
 table_is n m A marks long few e out =
     ext_get_or false marks (pad n false (table m A)) (long ∙ sym whole)
     (λ k h. ⊎_elim
-    (λ l. at k ∙ sym (get_d_table m A false k l) ∙ sym (pad_used n false (table m A) k (omega (arith, l, length-table m A))))
+    (λ l. at k ∙ sym (get_or-table m A false k l) ∙ sym (pad_used n false (table m A) k (omega (arith, l, length-table m A))))
     (λ g. at k ∙ out k g ∙ sym (pad_unused n false (table m A) k (omega (arith, g, length-table m A)) (omega (arith, h, long))))
     (lt_or_le k m))
   where
@@ -90,7 +90,7 @@ table_is n m A marks long few e out =
 pub marked_padded : (n m : ℕ) (A : ℕ → Bool) → ((k : ℕ) → m ≤ k → A k ≡ false) → marked (pad n false (table m A)) ≡ A
 marked_padded n m A out =
     fun_ext (λ k. ⊎_elim
-    (λ l. pad_used n false (table m A) k (omega (arith, l, length-table m A)) ∙ get_d_table m A false k l)
+    (λ l. pad_used n false (table m A) k (omega (arith, l, length-table m A)) ∙ get_or-table m A false k l)
     (λ g. pad-rest n false (table m A) k (omega (arith, g, length-table m A)) ∙ sym (out k g))
     (lt_or_le k m))
 
@@ -127,4 +127,4 @@ filled_all {n} {k} {f} {g} {xs} s h same old =
     (λ q l.
     let inside : q < n = omega (arith, l, s.long) in
     ⊎_elim (λ under. s.done q under ∙ same q inside under) (λ over. s.rest q over inside ∙ old q inside over) (lt_or_le q k)
-    ∙ sym (get_d_table n h 0 q inside))
+    ∙ sym (get_or-table n h 0 q inside))

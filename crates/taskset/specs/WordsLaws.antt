@@ -2,7 +2,7 @@
 use Rattle.std.specs.Prelude.{◌≡◌, refl, List, [], ℕ, zero, suc, ◌+◌, ◌*◌, ◌/◌, ◌≤◌, ◌<◌, length, get_or, take, drop, set}
 use Rattle.std.proofs.Common.{sym, ap, ◌∙◌, add-zero, add-suc, arith, get_or-take, get_or-drop}
 use Rattle.std.proofs.lemmas.List.Edits.{sets}
-use Rattle.sets.specs.Marks.{get_d_table}
+use Rattle.sets.specs.Marks.{get_or-table}
 use Rattle.sets.specs.Entries.{Exact, entries, entries-length, entries_at, entry_inside}
 use Rattle.taskset.specs.declared.Sections.{Sections}
 use Rattle.taskset.specs.declared.Task.{Task}
@@ -93,7 +93,7 @@ rules_none ws = refl
 -- a section is the word at its place
 pub section_at : (ws : List ℕ) (k : ℕ) → k < resources → section_on (task_of ws) k ≡ get_or ws (times + k) 0
 unfolding section_on
-section_at ws k h = get_d_table resources (λ q. get_or ws (times + q) 0) 0 k h
+section_at ws k h = get_or-table resources (λ q. get_or ws (times + q) 0) 0 k h
 
 -- and of row i in words that hold rows
 pub section_read : (ws : List ℕ) (i k : ℕ) → i < length (tasks_in ws) → k < resources

@@ -22,7 +22,7 @@ use Rattle.response.specs.Agreement.{response_says}
 use Rattle.assignment.specs.Orders.{every_rule, no_rule, hp, ValidOrder}
 use Rattle.assignment.specs.Audsley.{is_within, assign, feasible, response_at, problem}
 use Rattle.assignment.specs.Decision.{valid_fewer}
-use Rattle.assignment.specs.Preemptive.{less-feasible, meets_exactly, feasible-order}
+use Rattle.assignment.proofs.Preemptive.{less-feasible, meets_exactly, feasible-order}
 use Rattle.assignment.specs.Search.{index, time}
 use Rattle.verdict.specs.declared.Answer.TheVariants.{Refused, Order, Core}
 use Rattle.verdict.specs.declared.Verdict.{Verdict}

@@ -12,9 +12,9 @@ use Rattle.taskset.specs.Adding.{lists}
 use Rattle.taskset.specs.Passing.{Sized}
 use Rattle.assignment.specs.Orders.{every_rule}
 use Rattle.assignment.specs.Canonical.{CanonicalOrder}
-use Rattle.assignment.specs.CanonicalLaws.{canonical_unique, canonical_other}
+use Rattle.assignment.proofs.CanonicalLaws.{canonical_unique, canonical_other}
 use Rattle.assignment.specs.Audsley.{assign, feasible, problem}
-use Rattle.assignment.specs.Preemptive.{feasible_canonical, canonical_exactly}
+use Rattle.assignment.proofs.Preemptive.{feasible_canonical, canonical_exactly}
 use Rattle.verdict.specs.declared.Answer.TheVariants.{Order}
 use Rattle.verdict.specs.declared.Verdict.{Verdict}
 use Rattle.verdict.specs.declared.Solved.{Solved}

@@ -20,7 +20,7 @@ use Rattle.assignment.specs.Orders.{hp, ValidOrder}
 use Rattle.assignment.specs.Audsley.{unassigned, assign, feasible, response_at, problem}
 use Rattle.assignment.specs.Levels.{before_unassigned}
 use Rattle.assignment.specs.Decision.{filled_count, assign_filled, filled_valid}
-use Rattle.assignment.specs.Preemptive.{lawful, valid_exactly}
+use Rattle.assignment.proofs.Preemptive.{lawful, valid_exactly}
 use Rattle.assignment.specs.Search.{index, time, responses, lowest, HoldsLevels}
 use Rattle.verdict.specs.declared.Answer.TheVariants.{Order, Core}
 use Rattle.verdict.specs.declared.Solved.{Solved}

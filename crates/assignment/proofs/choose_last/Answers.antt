@@ -11,7 +11,7 @@ use Rattle.assignment.specs.Orders.{no_rule}
 use Rattle.assignment.specs.Audsley.{bare}
 use Rattle.assignment.specs.Search.{index, Searched}
 use Rattle.assignment.specs.Filling.{chosen-any}
-use Rattle.assignment.specs.Preemptive.{bare_lawful}
+use Rattle.assignment.proofs.Preemptive.{bare_lawful}
 use Rattle.assignment.specs.Hints.{NoneFrom, none_start, none-next, last_task, last_any}
 use Rattle.assignment.proofs.choose_last.Goals as goal
 

@@ -11,7 +11,8 @@ use Rattle.taskset.specs.Model.{Lists, Sound}
 use Rattle.taskset.specs.Words.{tasks_in, lists_in}
 use Rattle.response.specs.declared.Response.{Response}
 use Rattle.response.specs.declared.Resources.{Resources}
-use Rattle.response.specs.Resources.{BlocksEach, Tracks, blocking_by, blocking_level, tracks_unused}
+use Rattle.response.specs.Resources.{BlocksEach, Tracks, blocking_by}
+use Rattle.response.proofs.ResourcesLaws.{blocking_level, tracks_unused}
 use Rattle.assignment.specs.declared.Choice.TheVariants.{Takes}
 use Rattle.assignment.specs.declared.Hints.{Hints}
 use Rattle.assignment.specs.declared.Search.{Search}
@@ -19,7 +20,7 @@ use Rattle.assignment.specs.Orders.{SomeOrder}
 use Rattle.assignment.specs.Audsley.{without_rules, response_at, problem}
 use Rattle.assignment.specs.Search.{candidate, AnyOf, lowest_free, placed, Ended, Assigns, Helps}
 use Rattle.assignment.specs.Filling.{chosen-any}
-use Rattle.assignment.specs.Preemptive.{bare_lawful, ended_order}
+use Rattle.assignment.proofs.Preemptive.{bare_lawful, ended_order}
 use Rattle.assignment.specs.Ready.{ready-left}
 use Rattle.assignment.specs.Going.{Chose, Going, Gone, going_full, going_stuck, going_next, taker_left}
 use Rattle.assignment.proofs.fill_levels.Goals as goal

@@ -13,7 +13,7 @@ use Rattle.taskset.specs.Words.{tasks_in}
 use Rattle.taskset.specs.WordsLaws.{tasks_length}
 use Rattle.listing.specs.Listing.{late_line, lines_below}
 use Rattle.listing.specs.Numbers.{late_width, HasLines}
-use Rattle.listing.specs.NumbersLaws.{Written, written_none, written_room, written_in, written_out}
+use Rattle.listing.proofs.NumbersLaws.{Written, written_none, written_room, written_in, written_out}
 use Rattle.listing.proofs.late_lines.Statement.{statement}
 use Rattle.listing.proofs.late_lines.Tie as tie
 

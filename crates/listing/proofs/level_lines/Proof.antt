@@ -8,7 +8,7 @@ use lib.ListN.{length}
 use Rattle.taskset.specs.Refusals.{max_tasks}
 use Rattle.listing.specs.Listing.{level_line}
 use Rattle.listing.specs.Numbers.{width}
-use Rattle.listing.specs.NumbersLaws.{Written, written_none, written_room, written_in}
+use Rattle.listing.proofs.NumbersLaws.{Written, written_none, written_room, written_in}
 use Rattle.listing.proofs.level_lines.Statement.{statement}
 use Rattle.listing.proofs.level_lines.Tie as tie
 

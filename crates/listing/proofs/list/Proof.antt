@@ -14,8 +14,8 @@ use Rattle.taskset.specs.Model.{Lists, Sound}
 use Rattle.taskset.specs.Adding.{is_made}
 use Rattle.taskset.specs.Passing.{Sized, Passed, passed, passed_few}
 use Rattle.taskset.specs.Words.{task_size, rule_size, lists_in}
-use Rattle.listing.specs.Showing.{lists_14, lists_made}
-use Rattle.listing.specs.GivesLaws.{list_gives}
+use Rattle.listing.proofs.Showing.{lists_14, lists_made}
+use Rattle.listing.proofs.GivesLaws.{list_gives}
 use Rattle.listing.proofs.list.Statement.{statement}
 use Rattle.listing.proofs.list.Tie as tie
 

@@ -5,7 +5,7 @@ use native.Mathlib.Omega.{arith}
 use borrow.Author.Rules.{rules}
 use lib.ListN.{length, take, length-set}
 use lib.Seq.{sets, take_all}
-use Rattle.listing.specs.NumbersLaws.{nums_more}
+use Rattle.listing.proofs.NumbersLaws.{nums_more}
 use Rattle.listing.proofs.put_numbers.Statement.{statement}
 use Rattle.listing.proofs.put_numbers.Tie as tie
 

@@ -13,7 +13,7 @@ use Rattle.taskset.specs.Words.{rules_in}
 use Rattle.taskset.specs.WordsLaws.{rules_length}
 use Rattle.listing.specs.Listing.{rule_line, lines_below}
 use Rattle.listing.specs.Numbers.{width, HasLines}
-use Rattle.listing.specs.NumbersLaws.{Written, written_none, written_room, written_in, written_out}
+use Rattle.listing.proofs.NumbersLaws.{Written, written_none, written_room, written_in, written_out}
 use Rattle.listing.proofs.rule_lines.Statement.{statement}
 use Rattle.listing.proofs.rule_lines.Tie as tie
 

@@ -15,8 +15,8 @@ use Rattle.verdict.specs.declared.Answer.TheVariants.{Order, Core}
 use Rattle.verdict.specs.declared.Verdict.{Verdict}
 use Rattle.listing.specs.Listing.{lines_for, late_lines, late_for}
 use Rattle.listing.specs.Numbers.{width, late_width, HasLines, level_lines}
-use Rattle.listing.specs.NumbersLaws.{lines_length_all}
-use Rattle.listing.specs.Showing.{shows_refused, lines_inside, late_inside, shows_lines}
+use Rattle.listing.proofs.NumbersLaws.{lines_length_all}
+use Rattle.listing.proofs.Showing.{shows_refused, lines_inside, late_inside, shows_lines}
 use Rattle.listing.proofs.show.Statement.{statement}
 use Rattle.listing.proofs.show.Tie as tie
 

@@ -9,7 +9,7 @@ use Rattle.sets.specs.Onto.{Front, with_tail, front_in, tail_room, tail_back}
 use Rattle.lines.specs.Line.{line, lines_of, chunks}
 use Rattle.listing.specs.Listing.{late_head, listing_with}
 use Rattle.listing.specs.Numbers.{width, late_width}
-use Rattle.listing.specs.Showing.{listing-parts, shows_short, shows_whole}
+use Rattle.listing.proofs.Showing.{listing-parts, shows_short, shows_whole}
 use Rattle.listing.proofs.write.Statement.{statement}
 use Rattle.listing.proofs.write.Tie as tie
 

@@ -1,6 +1,6 @@
 -- `response::bound` meets its contract: a rate of the whole processor leaves no window, and any other has a least one.
 use Rattle.std.proofs.Common.{◌∙◌, arith}
-use Rattle.response.specs.Leap.{bound_whole, bound_least}
+use Rattle.response.proofs.LeapLaws.{bound_whole, bound_least}
 use Rattle.response.proofs.bound.Goals as goal
 
 pub returns-then-rate-ge-SCALE : goal.returns-then-rate-ge-SCALE

@@ -2,9 +2,9 @@
 use Rattle.std.proofs.Common.{sym, subst, arith}
 use Rattle.response.specs.declared.Window.TheVariants.{At, Beyond}
 use Rattle.response.specs.Agreement.{climb, window_is}
-use Rattle.response.specs.Demand.{load_mono}
+use Rattle.response.proofs.Demand.{load_mono}
 use Rattle.response.specs.Load.{Bounds}
-use Rattle.response.specs.Leap.{start_bounds}
+use Rattle.response.proofs.LeapLaws.{start_bounds}
 use Rattle.response.proofs.climb.Goals as goal
 
 pub loop-w-init : goal.loop-w-init

@@ -5,8 +5,8 @@ use Rattle.taskset.specs.declared.Task.{Task}
 use Rattle.taskset.specs.Refusals.{max_tasks, max_period}
 use Rattle.taskset.specs.Words.{tasks_in}
 use Rattle.taskset.specs.WordsLaws.{tasks_count, read_sound}
-use Rattle.response.specs.BlockingLaws.{blocking_le}
-use Rattle.response.specs.Gather.{Gathered, gathered_none, gathered_more, gathered_all}
+use Rattle.response.proofs.BlockingLaws.{blocking_le}
+use Rattle.response.proofs.GatherLaws.{Gathered, gathered_none, gathered_more, gathered_all}
 use Rattle.response.proofs.gather.Goals as goal
 use Rattle.response.proofs.gather.Goals.{After-task_in-own, In-loop-j, After-share-s, After-loop-j}
 

@@ -2,7 +2,7 @@
 use Rattle.std.proofs.Common.{◌≡◌, ◌-◌, ◌≤◌, length}
 use Rattle.sets.specs.Marks.{marked}
 use Rattle.taskset.specs.Words.{tasks_in}
-use Rattle.response.specs.Gather.{Gathered}
+use Rattle.response.proofs.GatherLaws.{Gathered}
 use Rattle.response.proofs.gather.Given as goal
 
 abbrev pub invariant-loop-j : goal.invariant-loop-j

@@ -2,7 +2,7 @@
 use Rattle.std.proofs.Common.{◌+◌, ◌^◌, ◌<◌, sym, subst, arith}
 use Rattle.taskset.specs.Words.{tasks_in}
 use Rattle.response.specs.Load.{Bounds, scale}
-use Rattle.response.specs.Leap.{Parts, parts_none, parts_more, parts-fit, leap_bounds}
+use Rattle.response.proofs.LeapLaws.{Parts, parts_none, parts_more, parts-fit, leap_bounds}
 use Rattle.response.proofs.leap.Goals as goal
 use Rattle.response.proofs.leap.Goals.{After-part_at-p}
 

@@ -1,7 +1,7 @@
 -- `response::leap`: after k tasks the sums are their parts.
 use Rattle.std.proofs.Common.{◌-◌, ◌≤◌}
 use Rattle.taskset.specs.Words.{tasks_in}
-use Rattle.response.specs.Leap.{Parts}
+use Rattle.response.proofs.LeapLaws.{Parts}
 use Rattle.response.proofs.leap.Given as goal
 
 abbrev pub invariant-loop-k : goal.invariant-loop-k

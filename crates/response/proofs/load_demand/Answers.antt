@@ -4,7 +4,7 @@ use Rattle.sets.specs.Bounded.{every}
 use Rattle.sets.specs.Sum.{sum, sum_start, sum_turn, sum_end}
 use Rattle.taskset.specs.Words.{tasks_in}
 use Rattle.response.specs.Equation.{interference}
-use Rattle.response.specs.Demand.{interference-sum}
+use Rattle.response.proofs.Demand.{interference-sum}
 use Rattle.response.specs.Load.{kept_at, load_demand}
 use Rattle.response.proofs.load_demand.Goals as goal
 use Rattle.response.proofs.load_demand.Goals.{After-interference-sum}

@@ -1,6 +1,6 @@
 -- `response::part_at` meets its contract: its count of the releases is the one that the part is defined by.
 use Rattle.std.proofs.Common.{arith}
-use Rattle.response.specs.Leap.{counted, part-ends, part_lasts}
+use Rattle.response.proofs.LeapLaws.{counted, part-ends, part_lasts}
 use Rattle.response.proofs.part_at.Goals as goal
 
 pub returns-then-releases-t : goal.returns-then-releases-t

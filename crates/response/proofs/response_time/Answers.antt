@@ -4,7 +4,7 @@ use Rattle.sets.specs.Marks.{marked}
 use Rattle.taskset.specs.Words.{tasks_in}
 use Rattle.response.specs.Equation.{demand, window_of}
 use Rattle.response.specs.Agreement.{window_same, window_room}
-use Rattle.response.specs.Leap.{late_by_jitter, found_response}
+use Rattle.response.proofs.LeapLaws.{late_by_jitter, found_response}
 use Rattle.response.proofs.response_time.Goals as goal
 use Rattle.response.proofs.response_time.Goals.{After-climb}
 

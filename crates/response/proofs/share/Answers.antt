@@ -1,5 +1,5 @@
 -- `response::share` meets its contract: nothing where the task is not above, else by whether it is released once.
-use Rattle.response.specs.Gather.{share_once, share_kept, share_none}
+use Rattle.response.proofs.GatherLaws.{share_once, share_kept, share_none}
 use Rattle.response.proofs.share.Goals as goal
 
 pub returns-then-room-t : goal.returns-then-room-t

@@ -13,9 +13,9 @@ use Rattle.taskset.specs.Model.{Lists}
 use Rattle.taskset.specs.Words.{rules_in, lists_in}
 use Rattle.taskset.specs.WordsLaws.{rules_length}
 use Rattle.assignment.specs.LateTasks.{unassignable}
-use Rattle.assignment.specs.LateLaws.{left-unassignable}
+use Rattle.assignment.proofs.LateLaws.{left-unassignable}
 use Rattle.assignment.specs.Audsley.{feasible, problem}
-use Rattle.assignment.specs.Preemptive.{lawful}
+use Rattle.assignment.proofs.Preemptive.{lawful}
 use Rattle.assignment.specs.Hints.{searched_bare}
 use Rattle.verdict.specs.Core.{core_of}
 use Rattle.verdict.specs.Cutting.{stay_none, none_searched, none-stay, core-marked}

@@ -12,7 +12,7 @@ use Rattle.taskset.specs.Model.{Lists}
 use Rattle.taskset.specs.Words.{lists_in}
 use Rattle.taskset.specs.WordsLaws.{tasks_length, rules_length}
 use Rattle.assignment.specs.LateTasks.{unassignable}
-use Rattle.assignment.specs.LateLaws.{left-unassignable, none-unassignable}
+use Rattle.assignment.proofs.LateLaws.{left-unassignable, none-unassignable}
 use Rattle.verdict.specs.declared.Verdict.{Verdict}
 use Rattle.verdict.specs.Verdict.{deciding}
 use Rattle.verdict.specs.Correct.{Correct}

@@ -12,7 +12,7 @@ use Rattle.taskset.specs.declared.Rule.{Rule}
 use Rattle.taskset.specs.Refusals.{max_tasks, max_rules, Between}
 use Rattle.taskset.specs.Words.{lists_in}
 use Rattle.assignment.specs.Audsley.{Problem, problem}
-use Rattle.assignment.specs.Preemptive.{lawful}
+use Rattle.assignment.proofs.Preemptive.{lawful}
 use Rattle.assignment.specs.Search.{Searched, Ended}
 use Rattle.assignment.specs.Going.{sound_indexed}
 use Rattle.verdict.specs.Cutting.{less_marks, cut_searched, cut_helps, cut_spared, cut_stays, cut_goes}

@@ -2,7 +2,8 @@
 use Rattle.std.proofs.Common.{sym, subst}
 use Rattle.sets.specs.Marks.{marked}
 use Rattle.taskset.specs.Words.{tasks_in}
-use Rattle.response.specs.Resources.{BlocksEach, blocking_level}
+use Rattle.response.specs.Resources.{BlocksEach}
+use Rattle.response.proofs.ResourcesLaws.{blocking_level}
 use Rattle.response.proofs.blocking.level_blocking.Goals as goal
 
 pub returns : goal.returns

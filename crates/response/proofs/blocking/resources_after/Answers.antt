@@ -6,7 +6,7 @@ use Rattle.taskset.specs.Refusals.{resources}
 use Rattle.taskset.specs.Model.{task_at}
 use Rattle.taskset.specs.Words.{tasks_in}
 use Rattle.response.specs.Blocking.{uses}
-use Rattle.response.specs.Resources.{users_enough, tracks_long, tracks_after}
+use Rattle.response.proofs.ResourcesLaws.{users_enough, tracks_long, tracks_after}
 use Rattle.response.proofs.blocking.resources_after.Goals as goal
 use Rattle.response.proofs.blocking.resources_after.Goals.{After-when}
 

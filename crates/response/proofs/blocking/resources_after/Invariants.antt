@@ -4,7 +4,7 @@ use Rattle.sets.specs.Marks.{FilledTo}
 use Rattle.taskset.specs.Refusals.{resources}
 use Rattle.taskset.specs.Model.{task_at}
 use Rattle.taskset.specs.Words.{tasks_in}
-use Rattle.response.specs.Resources.{fewer_users, more_held}
+use Rattle.response.proofs.ResourcesLaws.{fewer_users, more_held}
 use Rattle.response.proofs.blocking.resources_after.Given as goal
 
 abbrev pub invariant-loop-k : goal.invariant-loop-k

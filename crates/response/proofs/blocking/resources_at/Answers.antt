@@ -2,7 +2,7 @@
 use Rattle.std.proofs.Common.{arith}
 use Rattle.sets.specs.Marks.{filled_none, filled_more}
 use Rattle.taskset.specs.Refusals.{resources}
-use Rattle.response.specs.Resources.{tracks_at}
+use Rattle.response.proofs.ResourcesLaws.{tracks_at}
 use Rattle.response.proofs.blocking.resources_at.Goals as goal
 
 pub loop-k-init : goal.loop-k-init

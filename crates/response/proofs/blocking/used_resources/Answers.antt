@@ -1,7 +1,7 @@
 -- `response::blocking::used_resources` meets its contract: a turn leaves one resource more that no task uses.
 use Rattle.std.proofs.Common.{◌≡◌, sym, ◌∙◌, arith}
 use Rattle.taskset.specs.Words.{tasks_in}
-use Rattle.response.specs.Resources.{unused_none, unused_next}
+use Rattle.response.proofs.ResourcesLaws.{unused_none, unused_next}
 use Rattle.response.proofs.blocking.used_resources.Goals as goal
 
 pub loop-used-init : goal.loop-used-init

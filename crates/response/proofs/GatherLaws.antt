@@ -16,7 +16,7 @@ use Rattle.taskset.specs.declared.Task.{Task}
 use Rattle.taskset.specs.Refusals.{max_period, InRanges}
 use Rattle.response.specs.declared.Load.{Load}
 use Rattle.response.specs.Equation.{interference, demand}
-use Rattle.response.specs.Demand.{interference_once}
+use Rattle.response.proofs.Demand.{interference_once}
 use Rattle.taskset.specs.Model.{task_at, SoundTasks}
 use Rattle.response.specs.Blocking.{blocking_of}
 use Rattle.response.specs.Load.{share_by, share_of, StandsFor, kept_at, load_demand}

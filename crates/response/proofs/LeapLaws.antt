@@ -17,7 +17,7 @@ use Rattle.response.specs.declared.Window.{Window}
 use Rattle.response.specs.declared.Response.TheVariants.{Late}
 use Rattle.response.specs.Equation.{ceil, interference, demand, window_of, Says, respond, response_of}
 use Rattle.response.specs.Agreement.{response_is, response_both, climb}
-use Rattle.response.specs.Demand.{ceil-above, ceil_least, interference_mono, interference-le, load_mono, kept_row}
+use Rattle.response.proofs.Demand.{ceil-above, ceil_least, interference_mono, interference-le, load_mono, kept_row}
 use Rattle.response.specs.Load.{Bounds, kept_at, IsLoad, load_demand}
 use Rattle.response.specs.Load.{scale, rate, releases, ends, fixed_part, rate_part, part_of, bound_of}
 

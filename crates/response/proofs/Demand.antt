@@ -14,7 +14,7 @@ use Rattle.response.specs.declared.Response.TheVariants.{Within}
 use Rattle.response.specs.Equation.{ceil, interference, demand, response_time}
 use Rattle.response.specs.Agreement.{less-demand}
 use Rattle.response.specs.Blocking.{blocking_of}
-use Rattle.response.specs.BlockingLaws.{blocking_fewer}
+use Rattle.response.proofs.BlockingLaws.{blocking_fewer}
 use Rattle.response.specs.Load.{kept_at, load_demand, IsLoad}
 
 -- ---- rounding up

@@ -9,14 +9,14 @@ use Rattle.response.specs.declared.Response.{Response}
 use Rattle.response.specs.declared.Response.TheVariants.{Within, Late}
 use Rattle.response.specs.Equation.{demand, SaysResponse}
 use Rattle.response.specs.Agreement.{response_says}
-use Rattle.response.specs.Demand.{fewer_above}
+use Rattle.response.proofs.Demand.{fewer_above}
 use Rattle.assignment.specs.declared.Search.{Search}
 use Rattle.assignment.specs.Orders.{Valid, MeetsDeadline, ValidOrder, SomeOrder}
 use Rattle.assignment.specs.Canonical.{CanonicalOrder, GreatestOrder}
 use Rattle.assignment.specs.Audsley.{is_within, Passes, assign, feasible, response_at, problem, bare}
 use Rattle.assignment.specs.Levels.{valid_each, each_valid}
 use Rattle.assignment.specs.Decision.{Lawful, SomeValid, feasible_exactly, feasible_fewer}
-use Rattle.assignment.specs.CanonicalLaws.{greater_once, canonical_greatest, canonical_other, assign_canonical}
+use Rattle.assignment.proofs.CanonicalLaws.{greater_once, canonical_greatest, canonical_other, assign_canonical}
 use Rattle.assignment.specs.Search.{Ended}
 use Rattle.assignment.specs.Filling.{ended_decides}
 

@@ -24,8 +24,8 @@ use Rattle.assignment.specs.LateTasks.{EachMay, CanonicalSearch, AllMiss, Search
 use Rattle.assignment.specs.Audsley.{Problem, Passes, is_within, unassigned, assign, feasible, Filled, empty, level, Stuck, problem}
 use Rattle.assignment.specs.Levels.{unassigned_of, unassigned_is, unassigned_cons, none_left, each_order, left-unassigned, may_other}
 use Rattle.assignment.specs.Decision.{Lawful, test_may, may_test, filled_each_may, filled_count, assign-ends, assign_filled}
-use Rattle.assignment.specs.CanonicalLaws.{assign-greatest}
-use Rattle.assignment.specs.Preemptive.{meets_exactly, lawful, feasible-order}
+use Rattle.assignment.proofs.CanonicalLaws.{assign-greatest}
+use Rattle.assignment.proofs.Preemptive.{meets_exactly, lawful, feasible-order}
 use Rattle.assignment.specs.Ready.{level_stops}
 use Rattle.assignment.specs.Search.{Ended}
 use Rattle.assignment.specs.Filling.{searched_fewer}

@@ -8,7 +8,7 @@ use Rattle.taskset.specs.Model.{Lists, Sound}
 use Rattle.taskset.specs.Adding.{lists}
 use Rattle.taskset.specs.Passing.{Sized}
 use Rattle.assignment.specs.LateTasks.{unassignable}
-use Rattle.assignment.specs.LateLaws.{left_inside, late_tasks}
+use Rattle.assignment.proofs.LateLaws.{left_inside, late_tasks}
 use Rattle.verdict.specs.declared.Answer.{Answer}
 use Rattle.verdict.specs.declared.Answer.TheVariants.{Refused, Order, Core}
 use Rattle.verdict.specs.declared.Verdict.{Verdict}
@@ -22,8 +22,8 @@ use Rattle.listing.specs.declared.Listed.{Listed}
 use Rattle.listing.specs.Listing.{late_line, late_for, listing, Outcome, refused, shown, outcome, fitted, shown_as, listed, buffer_after}
 use Rattle.listing.specs.LateLines.{EmptyCore, LateLines}
 use Rattle.listing.specs.Gives.{Gives}
-use Rattle.listing.specs.NumbersLaws.{lines_none, lines-some}
-use Rattle.listing.specs.Showing.{outcome_shown, ListsAs}
+use Rattle.listing.proofs.NumbersLaws.{lines_none, lines-some}
+use Rattle.listing.proofs.Showing.{outcome_shown, ListsAs}
 
 -- ---- the late lines
 

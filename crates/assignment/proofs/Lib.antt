@@ -1,0 +1,3 @@
+pub mod CanonicalLaws
+pub mod LateLaws
+pub mod Preemptive

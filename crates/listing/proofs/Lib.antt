@@ -1,0 +1,4 @@
+pub mod GivesLaws
+pub mod NumbersLaws
+pub mod Short
+pub mod Showing

@@ -6,6 +6,8 @@ ghost use Rattle.std.specs.Prelude.{◌≡◌};
 ghost use Rattle.orders.specs.Input.{input_of, InFront};
 
 use listing::MAX_LISTING;
+use std::io;
+use std::io::{Read, Stdin};
 use text::MAX_TEXT;
 
 // One byte more than a text may have, so that a longer one is seen to be too long.
@@ -18,31 +20,31 @@ enum Input {
     Failed,
 }
 
-// What an answer of `libc::read` says. A call that a signal interrupts before it moves a byte counts as one that failed.
-fn told(got: isize, buffer: &[u8]) -> Input
-    ensures { result ≡ input_of got buffer.now }
+// What an answer of `Read::read` says. A call that a signal interrupts before it moves a byte counts as one that failed.
+fn told(got: io::Result<usize>) -> Input
+    ensures { result ≡ input_of got }
 {
-    if got < 0 {
-        return Input::Failed;
+    match got {
+        Ok(n) => Input::Bytes(n),
+        Err(_) => Input::Failed,
     }
-    Input::Bytes(io::count(got, buffer))
 }
 
 // One read.
-fn read_some(fd: i32, buffer: &mut [u8]) -> Input
+fn read_some(input: &mut Stdin, buffer: &mut [u8]) -> Input
     ensures { InFront buffer.new result }
 {
-    let got = libc::read(fd, buffer);
-    told(got, buffer)
+    let got = input.read(buffer);
+    told(got)
 }
 
 // Reads until the buffer is full, the input ends or a read fails.
-fn read_text(fd: i32, buffer: &mut [u8]) -> Input
+fn read_text(input: &mut Stdin, buffer: &mut [u8]) -> Input
     ensures { InFront buffer.new result }
 {
     let mut done = 0;
     while done < buffer.len() {
-        let Input::Bytes(more) = read_some(fd, &mut buffer[done..]) else {
+        let Input::Bytes(more) = read_some(input, &mut buffer[done..]) else {
             return Input::Failed;
         };
         if more == 0 {
@@ -53,15 +55,15 @@ fn read_text(fd: i32, buffer: &mut [u8]) -> Input
     Input::Bytes(done)
 }
 
-fn main() {
+fn main(rt: HostRuntime) {
     let mut text = [0u8; ROOM];
-    let Input::Bytes(n) = read_text(0, &mut text) else {
-        io::write_all(2, b"orders: can't read standard input\n");
+    let Input::Bytes(n) = read_text(&mut rt.stdin(), &mut text) else {
+        let _ = rt.eprintln("orders: can't read standard input");
         return;
     };
     let mut out = [0u8; MAX_LISTING];
     let count = answer::report(&text[..n], &mut out);
-    if !io::write_all(1, &out[..count]) {
-        io::write_all(2, b"orders: can't write standard output\n");
+    if rt.write_all(&out[..count]).is_err() {
+        let _ = rt.eprintln("orders: can't write standard output");
     }
 }

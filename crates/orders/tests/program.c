@@ -4,7 +4,7 @@
  *
  *     program TEXTS ANSWERS
  *
- * is run where `orders` and `target` are. TEXTS holds texts joined by form
+ * is run where `orders` and `crates` are. TEXTS holds texts joined by form
  * feeds (byte 12), ANSWERS what `orders` writes for them, one after the other;
  * each eighth text is run.
  *
@@ -28,7 +28,7 @@ enum {
     WRITTEN = 65536 /* the most bytes that are looked at */
 };
 
-#define PROGRAM "target/bin/orders"
+#define PROGRAM "crates/orders/out/orders"
 #define NO_READ "orders: can't read standard input\n"
 #define NO_WRITE "orders: can't write standard output\n"
 

@@ -3,7 +3,7 @@
  * input, and writes the listing to standard output.
  *
  *     rt staticlib orders_c
- *     cc -O2 -Icrates/orders_c/include crates/orders_c/example/host.c target/staticlib/liborders_c.a -o target/host
+ *     cc -O2 -Icrates/orders_c/include crates/orders_c/example/host.c crates/orders_c/out/liborders_c.a -o target/host
  *
  * Exit status: 0 with a listing, 1 for a refused text, 2 when a file cannot be
  * read or written.

@@ -10,7 +10,7 @@
  * with what a large buffer gave.
  *
  *     cc -O1 -g -fsanitize=address,undefined -Icrates/orders_c/include crates/orders_c/tests/buffers.c \
- *         target/staticlib/liborders_c.a -o target/buffers
+ *         crates/orders_c/out/liborders_c.a -o target/buffers
  *
  * The sanitiser sees what is built with it. For a library that is not, text
  * and buffer also stand at the edge of a page that nobody may touch.

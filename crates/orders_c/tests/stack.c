@@ -7,7 +7,7 @@
  * that was filled with one byte; the deepest byte that has changed after all of
  * them tells the need.
  *
- *     cc -O2 -Icrates/orders_c/include crates/orders_c/tests/stack.c target/staticlib/liborders_c.a -o target/stack
+ *     cc -O2 -Icrates/orders_c/include crates/orders_c/tests/stack.c crates/orders_c/out/liborders_c.a -o target/stack
  */
 #define _GNU_SOURCE
 #include <sys/mman.h>

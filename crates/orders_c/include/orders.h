@@ -98,7 +98,7 @@ extern "C" {
  * exactly the listing's size is enough. No zero byte is put at the end.
  *
  * The text is never changed. The call keeps nothing from one call to the next,
- * allocates nothing, and calls nothing but memcpy and memset, so several
+ * allocates nothing, and calls nothing but memcpy, memmove and memset, so several
  * threads may call it at once, each with a buffer of its own.
  *
  * A null pointer with length 0 is an empty text or an empty buffer. A caller

@@ -2,7 +2,7 @@
  * An example host: reads a text from the file that is named, or from standard
  * input, and writes the listing to standard output.
  *
- *     rt staticlib orders_c
+ *     (cd crates/orders_c && rt lib) && mkdir -p target
  *     cc -O2 -Icrates/orders_c/include crates/orders_c/example/host.c crates/orders_c/out/liborders_c.a -o target/host
  *
  * Exit status: 0 with a listing, 1 for a refused text, 2 when a file cannot be

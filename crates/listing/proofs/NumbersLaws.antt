@@ -157,10 +157,21 @@ module _ {isIn : ℕ → Bool} {nums : ℕ → List ℕ} {wide long : ℕ} where
           has = subst (HasLines wide (lines_below isIn nums (k + 1))) (sym is) more.1;
         }
 
-    pub written_out : isIn k ≡ false → Written isIn nums wide long (k + 1) n numbers
+    written_out : isIn k ≡ false → Written isIn nums wide long (k + 1) n numbers
     written_out e =
         let same = has_out isIn nums k e in
         record { size = w.size; count = rw (← same) w.count; has = rw (← same) w.has }
+
+    -- either way: so many lines and these numbers are what a turn leaves, by whether the index is in
+    pub written_turn : ((j : ℕ) → length (nums j) ≡ wide) → wide * n + wide ≤ length numbers → {m : ℕ} {xs : List ℕ}
+        → m ≡ pick (isIn k) (n + 1) n → xs ≡ pick (isIn k) (sets numbers (wide * n) (nums k)) numbers
+        → Written isIn nums wide long (k + 1) m xs
+    written_turn same room {m} {xs} f g = rw (f, g) (go (isIn k) refl)
+      where
+        go : (b : Bool) → isIn k ≡ b
+            → Written isIn nums wide long (k + 1) (pick b (n + 1) n) (pick b (sets numbers (wide * n) (nums k)) numbers)
+        go true e = written_in same room e refl refl
+        go false e = written_out e
 
 -- with every index in there are as many
 pub lines_length_all : (nums : ℕ → List ℕ) (n : ℕ) → length (lines_below (λ k. true) nums n) ≡ n

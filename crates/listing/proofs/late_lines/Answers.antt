@@ -1,5 +1,5 @@
 -- There is room for the next task's line, and after a turn it stands there too, where the task is left.
-use Rattle.std.proofs.Common.{◌≡◌, ℕ, ◌+◌, ◌*◌, ◌≤◌, ◌<◌, [], ◌∷◌, length, refl, sym, ap, subst, arith}
+use Rattle.std.proofs.Common.{◌≡◌, ℕ, ◌+◌, ◌*◌, ◌≤◌, ◌<◌, length, refl, subst, arith}
 use Rattle.sets.specs.Choice.{true→T}
 use Rattle.sets.specs.Marks.{marked}
 use Rattle.taskset.specs.Refusals.{max_tasks}
@@ -7,9 +7,9 @@ use Rattle.taskset.specs.Words.{tasks_in}
 use Rattle.taskset.specs.WordsLaws.{tasks_length}
 use Rattle.listing.specs.Listing.{late_line, lines_below}
 use Rattle.listing.specs.Numbers.{late_width, HasLines}
-use Rattle.listing.proofs.NumbersLaws.{written_none, written_room, written_in, written_out}
+use Rattle.listing.proofs.NumbersLaws.{written_none, written_room, written_turn}
 use Rattle.listing.proofs.late_lines.Goals as goal
-use Rattle.listing.proofs.late_lines.Goals.{In-loop-k, then-left-k, else-left-k}
+use Rattle.listing.proofs.late_lines.Goals.{In-loop-k}
 
 -- the next task is one of the words', and few enough; and there is room for its line
 here : (c : In-loop-k) → (c.loop-k.k < length (tasks_in c.args.rows.now)) × (c.loop-k.k < max_tasks)
@@ -24,6 +24,15 @@ fits c = written_room c.loop-k.invariant.written max_tasks (here c).1 c.requires
 pub loop-k-init : goal.loop-k-init
 loop-k-init c = record { inside = omega arith; written = written_none refl }
 
+pub loop-k-preserved : goal.loop-k-preserved
+loop-k-preserved c =
+    let at = c.loop-k in
+    let room = fits ((goal.at.loop-k-preserved c).In-loop-k) in
+    record {
+      inside = omega arith;
+      written = written_turn at.invariant.written (λ j. refl) room.1 (grind arith) (grind arith);
+    }
+
 pub bounds-left-k : goal.bounds-left-k
 bounds-left-k c = (here c).1
 
@@ -35,7 +44,7 @@ pub late_response-requires-clause-blocking_value :
     goal.late_response-requires-clause-blocking_value
 late_response-requires-clause-blocking_value c =
     let inside = (here ((goal.at.late_response-requires-clause-blocking_value c).In-loop-k)).0 in
-    c.level_blocking-blocking.ensures _ inside (true→T _ c.if-left-k.true)
+    c.level_blocking-blocking.ensures _ inside (true→T (marked c.args.left c.loop-k.k) (grind arith))
 
 pub overflow_mul-count : goal.overflow_mul-count
 overflow_mul-count c = let h = fits ((goal.at.overflow_mul-count c).In-loop-k) in omega arith
@@ -45,20 +54,6 @@ put_numbers-requires c = (fits ((goal.at.put_numbers-requires c).In-loop-k)).1
 
 pub overflow_add-count : goal.overflow_add-count
 overflow_add-count c = let h = fits ((goal.at.overflow_add-count c).In-loop-k) in omega arith
-
-pub loop-k-preserved : goal.loop-k-preserved
-loop-k-preserved c =
-    let at = c.loop-k in
-    let room = fits ((goal.at.loop-k-preserved c).In-loop-k) in
-    record {
-      inside = omega arith;
-      written = elim c.if-left-k.branch [
-        | then-left-k w ↦
-            let line = ap (λ (r : ℕ). at.k ∷ r ∷ []) (sym w.late_response.ensures) in
-            rw (w.numbers-is, w.count-is) (written_in at.invariant.written (λ j. refl) room.1 w.if-left-k.true line w.put_numbers.ensures)
-        | else-left-k w ↦ rw (w.numbers-is, w.count-is) (written_out at.invariant.written w.if-left-k.false)
-      ];
-    }
 
 pub returns : goal.returns
 returns c =

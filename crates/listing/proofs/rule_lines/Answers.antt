@@ -1,15 +1,14 @@
 -- There is room for the next rule's line, and after a turn it stands there too, where the rule is in the core.
-use Rattle.std.proofs.Common.{◌≡◌, ℕ, ◌+◌, ◌*◌, ◌≤◌, ◌<◌, [], ◌∷◌, length, refl, sym, ap, subst, arith}
+use Rattle.std.proofs.Common.{◌≡◌, ℕ, ◌+◌, ◌*◌, ◌≤◌, ◌<◌, length, refl, subst, arith}
 use Rattle.sets.specs.Marks.{marked}
-use Rattle.taskset.specs.declared.Rule.{Rule}
 use Rattle.taskset.specs.Refusals.{max_rules}
 use Rattle.taskset.specs.Words.{rules_in}
 use Rattle.taskset.specs.WordsLaws.{rules_length}
 use Rattle.listing.specs.Listing.{rule_line, lines_below}
 use Rattle.listing.specs.Numbers.{width, HasLines}
-use Rattle.listing.proofs.NumbersLaws.{written_none, written_room, written_in, written_out}
+use Rattle.listing.proofs.NumbersLaws.{written_none, written_room, written_turn}
 use Rattle.listing.proofs.rule_lines.Goals as goal
-use Rattle.listing.proofs.rule_lines.Goals.{In-loop-k, then-core-k, else-core-k}
+use Rattle.listing.proofs.rule_lines.Goals.{In-loop-k}
 
 -- the next rule is one of the words', and few enough; and there is room for its line
 here : (c : In-loop-k) → (c.loop-k.k < length (rules_in c.args.rules.now)) × (c.loop-k.k < max_rules)
@@ -20,6 +19,15 @@ fits c = written_room c.loop-k.invariant.written max_rules (here c).1 c.requires
 
 pub loop-k-init : goal.loop-k-init
 loop-k-init c = record { inside = omega arith; written = written_none refl }
+
+pub loop-k-preserved : goal.loop-k-preserved
+loop-k-preserved c =
+    let at = c.loop-k in
+    let room = fits ((goal.at.loop-k-preserved c).In-loop-k) in
+    record {
+      inside = omega arith;
+      written = written_turn at.invariant.written (λ j. refl) room.1 (grind arith) (grind arith);
+    }
 
 pub bounds-core-k : goal.bounds-core-k
 bounds-core-k c = (here c).1
@@ -35,20 +43,6 @@ put_numbers-requires c = (fits ((goal.at.put_numbers-requires c).In-loop-k)).1
 
 pub overflow_add-count : goal.overflow_add-count
 overflow_add-count c = let h = fits ((goal.at.overflow_add-count c).In-loop-k) in omega arith
-
-pub loop-k-preserved : goal.loop-k-preserved
-loop-k-preserved c =
-    let at = c.loop-k in
-    let room = fits ((goal.at.loop-k-preserved c).In-loop-k) in
-    record {
-      inside = omega arith;
-      written = elim c.if-core-k.branch [
-        | then-core-k w ↦
-            let line = ap (λ (r : Rule). at.k ∷ r.higher.0 ∷ r.lower.0 ∷ []) (sym w.rule_in-rule.ensures) in
-            rw (w.numbers-is, w.count-is) (written_in at.invariant.written (λ j. refl) room.1 w.if-core-k.true line w.put_numbers.ensures)
-        | else-core-k w ↦ rw (w.numbers-is, w.count-is) (written_out at.invariant.written w.if-core-k.false)
-      ];
-    }
 
 pub returns : goal.returns
 returns c =

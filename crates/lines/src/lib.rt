@@ -50,6 +50,7 @@ fn wide(byte: u8) -> u64
 }
 
 // The number in the field that starts at a position: it ends at a tab, or where the line does.
+#[tactic(auto, using(crate::specs::Reading::read_tab))]
 pub fn number_from(line: &[u8], at: usize) -> Number
     ensures { result ≡ number_from at (up_to tab (drop at line.now)) }
 {

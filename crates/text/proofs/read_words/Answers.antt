@@ -1,5 +1,5 @@
 -- A line that ends the reading gives what the whole text gives, and so does one that is taken, with the rest after it.
-use Rattle.std.proofs.Common.{◌≡◌, ◌<◌, sym, ◌∙◌, arith}
+use Rattle.std.proofs.Common.{◌≡◌, ◌<◌, sym, ◌∙◌, arith, rules}
 use Rattle.taskset.specs.Refusals.{max_tasks, max_rules}
 use Rattle.taskset.specs.Model.{no_lists, refusal_of}
 use Rattle.taskset.specs.WordsLaws.{task_exact, rule_exact}
@@ -45,7 +45,7 @@ returns-then-refusal-ne0 c =
     let is = answered (goal.at.returns-then-refusal-ne0 c).After-refusal-refusal in
     let asks = sym c.in-Asks.ensures in
     let bad = line_refused c.loop-at.invariant.3 c.line_from-bytes.ensures c.if-text-at.false asks is c.if-refusal-ne0.true in
-    let g = gives_none _ c.loop-at.rows c.loop-at.rules c.refused-then-refusal-ne0.ensures bad in
+    let g = gives_none _ c.loop-at.rows c.loop-at.rules (search rules) bad in
     record { value = g.0; lists = g.1 }
 
 pub overflow_mul-ntasks : goal.overflow_mul-ntasks

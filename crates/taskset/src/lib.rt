@@ -200,6 +200,7 @@ fn index_refusal(n: usize, r: Rule) -> u64
 }
 
 // The refusal of a call to a set of n tasks and m rules, 0 where it is taken: 1 to 5, then 10; or 6, 11, then 12.
+#[tactic(auto, using(crate::proofs::Refusing::refusing))]
 pub fn refusal(n: usize, m: usize, call: Call) -> u64
     ensures { result ≡ refusal_by n m call }
 {

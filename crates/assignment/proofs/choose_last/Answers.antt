@@ -1,5 +1,5 @@
 -- Of the tasks left, the one furthest down in the other search passed there with all the others left above it. Assumes nothing.
-use Rattle.std.proofs.Common.{List, ℕ, ◌-◌, ◌≤◌, ◌<◌, length, get_or, arith, subst}
+use Rattle.std.proofs.Common.{List, ℕ, ◌-◌, ◌≤◌, ◌<◌, length, get_or, arith, rules, subst}
 use Rattle.sets.specs.Marks.{marked}
 use Rattle.taskset.specs.declared.Task.{Task}
 use Rattle.taskset.specs.Refusals.{max_tasks}
@@ -49,7 +49,7 @@ loop-level-preserved c =
     let at = c.loop-level in
     record {
       in_range = omega arith;
-      none_below = none-next _ c.args.other.order (marked c.args.left) at.level at.invariant.none_below c.if-left-i.false;
+      none_below = search (rules, none-next);
     }
 
 pub returns : goal.returns

@@ -1,6 +1,6 @@
 -- Laws of what is kept up from level to level: the tasks below a level are the same for each task left, and so are the resources
 -- that it and the tasks above it use; so is its blocking. Assumes nothing.
-use Rattle.std.specs.Prelude.{◌≡◌, Bool, true, false, ◌&&◌, not, List, ◌⊎◌, eqb, ltb, length, get_or}
+use Rattle.std.specs.Prelude.{◌≡◌, Bool, true, false, List, ◌⊎◌, eqb, ltb, length, get_or}
 use Rattle.std.proofs.Math.Path.{refl, ap, subst}
 use Rattle.std.proofs.Common.{sym, ◌∙◌, eq-or-lt_of_le, eq-zero-or-pos, eqb→eq, lt→ltb, eq-eqb, ltb-false}
 use Rattle.std.proofs.Math.Logic.{inl, inr, ⊎_elim}
@@ -11,14 +11,14 @@ use Rattle.sets.specs.Choice.{pick, and_intro, and_left, and_right, not→refute
 use Rattle.sets.specs.Bounded.{Subset, without, without_still, without_other, any, any_of, any_found, count}
 use Rattle.sets.specs.Bounded.{count_mono, count_less, count_but, count_pos, count-zero}
 use Rattle.sets.specs.Maximum.{maximum, maximum_at, maximum_found, maximum-le, maximum_same}
-use Rattle.sets.specs.Marks.{table, length-table, get_or-table, FilledTo, filled_old, filled_all}
+use Rattle.sets.specs.Marks.{length-table, get_or-table, FilledTo, filled_old, filled_all}
 use Rattle.taskset.specs.declared.Task.{Task}
 use Rattle.taskset.specs.Refusals.{resources, section_on}
 use Rattle.taskset.specs.Model.{task_at}
 use Rattle.response.specs.declared.Resources.{Resources}
-use Rattle.response.specs.Blocking.{uses, MayBlock, blocking_of}
+use Rattle.response.specs.Blocking.{uses, MayBlock}
 use Rattle.response.proofs.BlockingLaws.{blocking_exactly}
-use Rattle.response.specs.Resources.{BlocksEach, UnusedFrom, users_left, users_on, levelled, lengths, held_on, FewUsed, Tracks, blocking_by}
+use Rattle.response.specs.Resources.{BlocksEach, UnusedFrom, users_left, users_on, levelled, lengths, held_on, Tracks, blocking_by}
 
 -- ---- it is that of the level
 

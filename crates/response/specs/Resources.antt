@@ -1,22 +1,16 @@
 -- What a search keeps up from level to level to know the blocking there: how many of the tasks left use each resource, and the
 -- longest section on it of those that have a level. `ResourcesLaws` proves that it gives the blocking. Assumes nothing.
-use Rattle.std.specs.Prelude.{◌≡◌, Bool, true, false, ◌&&◌, not, List, ◌⊎◌, eqb, ltb, length, get_or}
-use Rattle.std.proofs.Math.Path.{refl, ap, subst}
-use Rattle.std.proofs.Common.{sym, ◌∙◌, eq-or-lt_of_le, eq-zero-or-pos, eqb→eq, lt→ltb, eq-eqb, ltb-false}
-use Rattle.std.proofs.Math.Logic.{inl, inr, ⊎_elim}
-use Prim.Native.Nat.{ℕ, ◌-◌, ◌≤◌, ◌<◌, max}
-use native.Mathlib.Omega.{arith}
-use Rattle.std.proofs.Math.Dec.{T, ltb→lt}
-use Rattle.sets.specs.Choice.{pick, and_intro, and_left, and_right, not→refuted, refuted→not, refuted→false, false→refuted, true→T, decided}
-use Rattle.sets.specs.Bounded.{Subset, without, without_still, without_other, any, any_of, any_found, count}
-use Rattle.sets.specs.Bounded.{count_mono, count_less, count_but, count_pos, count-zero}
-use Rattle.sets.specs.Maximum.{maximum, maximum_at, maximum_found, maximum-le, maximum_same}
-use Rattle.sets.specs.Marks.{table, length-table, get_or-table, FilledTo, filled_old, filled_all}
+use Rattle.std.specs.Prelude.{◌≡◌, Bool, ◌&&◌, not, List, ltb, length, get_or}
+use Prim.Native.Nat.{ℕ, ◌≤◌, ◌<◌}
+use Rattle.std.proofs.Math.Dec.{T}
+use Rattle.sets.specs.Bounded.{without, count}
+use Rattle.sets.specs.Maximum.{maximum}
+use Rattle.sets.specs.Marks.{table}
 use Rattle.taskset.specs.declared.Task.{Task}
 use Rattle.taskset.specs.Refusals.{resources, section_on}
 use Rattle.taskset.specs.Model.{task_at}
 use Rattle.response.specs.declared.Resources.{Resources}
-use Rattle.response.specs.Blocking.{uses, MayBlock, blocking_of}
+use Rattle.response.specs.Blocking.{uses, blocking_of}
 
 -- b is the blocking of each of these tasks, with the others that are left above it
 abbrev pub BlocksEach : List Task → (ℕ → Bool) → (ℕ → Bool) → ℕ → Type 0

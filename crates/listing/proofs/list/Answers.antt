@@ -1,5 +1,5 @@
 -- The words of a set that calls make hold its lists.
-use Rattle.std.proofs.Common.{◌≡◌, Bool, true, sym, ◌∙◌, subst, ◌*◌, ◌≤◌, length, take, length-take-le, arith}
+use Rattle.std.proofs.Common.{◌≡◌, Bool, true, sym, ◌∙◌, subst, ◌≤◌, length-take-le, arith}
 use Rattle.taskset.proofs.Sizes.{sized}
 use Rattle.taskset.specs.declared.TaskSet.{TaskSet}
 use Rattle.taskset.specs.Refusals.{max_tasks, max_rules}

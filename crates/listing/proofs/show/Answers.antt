@@ -1,6 +1,5 @@
 -- By the verdict's answer: the numbers of its lines are few enough for their arrays, and what is shown of them is the outcome.
-use Rattle.std.proofs.Common.{◌≡◌, refl, sym, ◌∙◌, subst, Bool, List, [], ℕ, ◌*◌, ◌/◌, ◌≤◌, length, length-take-le, arith}
-use Rattle.std.proofs.lemmas.Grind.{common_steps}
+use Rattle.std.proofs.Common.{◌≡◌, refl, sym, ◌∙◌, subst, Bool, [], ℕ, ◌/◌, length, length-take-le, arith}
 use mathlib.Core.List.{flat_map}
 use Rattle.taskset.specs.Words.{task_size, tasks_in, lists_in}
 use Rattle.taskset.specs.WordsLaws.{tasks_length}

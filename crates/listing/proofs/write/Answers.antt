@@ -1,6 +1,6 @@
 -- The head line, and the others into the rest of the buffer.
 use Rattle.std.proofs.Common.{◌≡◌, List, [], ◌∷◌, ◌++◌, ℕ, ◌+◌, ◌/◌, length, length-append, refl, arith}
-use Rattle.sets.specs.Onto.{Front, with_tail, tail_back}
+use Rattle.sets.specs.Onto.{Front, tail_back}
 use Rattle.lines.specs.Line.{line, lines_of, chunks}
 use Rattle.listing.specs.declared.Shown.{Shown}
 use Rattle.listing.specs.Listing.{late_head, listing_with, shown}

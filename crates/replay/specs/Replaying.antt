@@ -2,7 +2,7 @@
 use Rattle.std.specs.Prelude.{◌≡◌, refl, List, [], ◌∷◌, ◌++◌, ℕ, suc, ◌+◌, ◌-◌, ◌*◌, ◌/◌, ◌≤◌, ◌<◌, eqb, length, get_or, take, drop}
 use Rattle.std.proofs.Common.{sym, ap, ◌∙◌, add-one, arith, length-drop, get_or-take, take-suc, take_all, length-take-le, eq-eqb, ne_eqb}
 use Rattle.sets.specs.Choice.{pick}
-use Rattle.sets.specs.Entries.{Exact, words_of, entries, entries-length, entries_at, entry_inside, entries_back}
+use Rattle.sets.specs.Entries.{Exact, words_of, entries-length, entries_at, entry_inside, entries_back}
 use Rattle.taskset.specs.declared.Added.{Added}
 use Rattle.taskset.specs.declared.TaskSet.{TaskSet}
 use Rattle.taskset.specs.declared.Call.{Call}
@@ -10,7 +10,7 @@ use Rattle.taskset.specs.declared.Call.TheVariants.{AddTask, AddRule}
 use Rattle.taskset.specs.Model.{blank_rule}
 use Rattle.taskset.specs.Adding.{fresh_set, add, run}
 use Rattle.taskset.specs.Exact.{run_more}
-use Rattle.taskset.specs.Words.{task_size, rule_size, task_of, rule_of}
+use Rattle.taskset.specs.Words.{task_size, task_of, rule_of}
 use Rattle.taskset.specs.WordsLaws.{task_exact}
 use Rattle.replay.specs.Calls.{call_size, call_in, call_words, call_codec, calls_in, Words, Asked}
 

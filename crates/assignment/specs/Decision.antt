@@ -221,7 +221,7 @@ pub valid_fewer : {n : ℕ} {rules : List Rule} {Meets : ℕ → (ℕ → Bool) 
 valid_fewer fewer v = record { is_order = v.is_order; keeps = λ k h on. v.keeps k h (fewer k h on); meets = v.meets }
 
 module _ (p : Problem) (less more : ℕ → Bool) (fewer : Subset (length p.rules) less more) where
-  may_fewer : (left : ℕ → Bool) (i : ℕ) → T (may_take p more left i) → T (may_take p less left i)
+  pub may_fewer : (left : ℕ → Bool) (i : ℕ) → T (may_take p more left i) → T (may_take p less left i)
   may_fewer left i t = may_test p less left i (may_other (λ i above m. m) fewer (test_may p more left i t))
 
   -- the same levels may be filled
@@ -236,14 +236,13 @@ module _ (p : Problem) (less more : ℕ → Bool) (fewer : Subset (length p.rule
       (feasible_exactly p less lawful).1
       (s.0, valid_fewer fewer s.1)
 
--- a rule whose two tasks are not both left puts nobody below anybody there, so where the search is stuck it stays so without it
-pub stuck_without : (p : Problem) (active left : ℕ → Bool) (k : ℕ)
+-- a rule whose two tasks are not both left puts nobody below anybody there, so whoever may take the level without it may with it
+pub may_without : (p : Problem) (active left : ℕ → Bool) (k : ℕ)
     → (T (left (rule_at p.rules k).higher.0) → T (left (rule_at p.rules k).lower.0) → ⊥)
-    → Stuck p active left → Stuck p (without active k) left
-stuck_without p active left k apart stuck i h t =
+    → (i : ℕ) → T (may_take p (without active k) left i) → T (may_take p active left i)
+may_without p active left k apart i t =
     let m = test_may p (without active k) left i t in
-    stuck i h
-    (may_test p active left i
+    may_test p active left i
     (record {
       is_left = m.is_left;
       below = λ j g on e low. ⊎_elim
@@ -255,7 +254,13 @@ stuck_without p active left k apart stuck i h t =
           (without_other active k j (λ q. other (subst (λ (r : ℕ). T (eqb k r)) q (eqb_refl k))) on) e low)
           (decided (eqb k j));
       meets = m.meets;
-    }))
+    })
+
+-- where the search is stuck it stays so without it
+pub stuck_without : (p : Problem) (active left : ℕ → Bool) (k : ℕ)
+    → (T (left (rule_at p.rules k).higher.0) → T (left (rule_at p.rules k).lower.0) → ⊥)
+    → Stuck p active left → Stuck p (without active k) left
+stuck_without p active left k apart stuck i h t = stuck i h (may_without p active left k apart i t)
 
 -- and whoever may take a level with rules may take it without
 pub may_bare : (p : Problem) (active left : ℕ → Bool) (i : ℕ) → T (may_take p active left i) → T (may_take (without_rules p) no_rule left i)

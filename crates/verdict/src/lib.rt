@@ -88,6 +88,7 @@ fn first(m: usize) -> [bool; MAX_RULES]
 
 // Rule k tried, with `less` the other rules still in: out for good where they still have no valid order. Where its two tasks
 // are not both left it changes nothing, and no search is made.
+#[tactic(auto, using(crate::proofs::Spared::spared))]
 fn try_rule(rows: &[u64], rules: &[u64], less: [bool; MAX_RULES], cut: Cut, k: usize) -> Cut
     requires sound { Sound (lists_in rows.now rules.now) }
     requires k_in_bounds { k < length (rules_in rules.now) }

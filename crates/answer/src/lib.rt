@@ -62,6 +62,7 @@ fn write_bad(out: &mut [u8], line: u64, refusal: u64) -> usize
 }
 
 // Writes what the program `orders` writes for a text: the listing, or one line `bad`, line, number.
+#[tactic(auto, using(crate::proofs::Reporting::reporting))]
 pub fn report(text: &[u8], out: &mut [u8]) -> usize
     requires { max_listing ≤ length out.old }
     ensures value { result ≡ length (report text.now) }

@@ -7,6 +7,7 @@ ghost use Rattle.listing.specs.Listing.{fitted, buffer_after};
 ghost use Rattle.answer.specs.Answer.{answer_to, host_number};
 ghost use Rattle.answer.specs.Host.{HostGets};
 
+#[tactic(auto, using(crate::proofs::Hosting::hosting))]
 #[unsafe(no_mangle)]
 pub extern "C" fn orders_solve(text: &[u8], out: &mut [u8]) -> u64
     ensures value { result ≡ host_number (fitted (length out.old) (answer_to text.now)) }

@@ -1,8 +1,10 @@
 -- What was read fits its arrays and is sound, and the verdict on it is shown. Assumes nothing.
-use Rattle.std.proofs.Common.{ap, sym, subst, ◌∙◌, arith}
+use Rattle.std.specs.Prelude.{◌≡◌}
+use Rattle.std.proofs.Common.{ap, sym, subst, arith}
 use Rattle.std.proofs.lemmas.List.{length-take-le}
 use Rattle.taskset.specs.Model.{Sound}
 use Rattle.text.specs.declared.Counts.{Counts}
+use Rattle.text.specs.Text.{reading}
 use Rattle.text.specs.Asking.{reading_sound, counts_few}
 use Rattle.answer.specs.Answering.{answer_shown}
 use Rattle.answer.proofs.answer.Goals as goal
@@ -34,7 +36,7 @@ show-shown-requires-clause-sound c = subst Sound (sym c.read_words-read.ensures.
 pub returns-clause-gives : goal.returns-clause-gives
 returns-clause-gives c =
     let read = c.read_words-read.ensures in
-    let good = sym (ap (λ (r : Counts). r.refusal) read.value) ∙ c.if-refusal-ne0.false in
+    let good : (reading c.args.text.now).refusal ≡ 0 = omega (arith, ap (λ (r : Counts). r.refusal) read.value) in
     let line = ap (λ (r : Counts). r.line) read.value in
     let shown = c.show-shown.ensures in
     (answer_shown c.args.text.now c.args.out.now good _ read.lists _ line _ c.decide-decided.ensures.verdict_value

@@ -52,6 +52,7 @@ pub fn answer(text: &[u8], out: &mut [u8]) -> Answered
 }
 
 // Writes one line `bad`, line, number into the front of a buffer, and says how many bytes that is.
+#[tactic(auto, using(crate::specs::Answering::bad_short))]
 fn write_bad(out: &mut [u8], line: u64, refusal: u64) -> usize
     requires { max_bad ≤ length out.old }
     ensures value { result ≡ length (bad_line line refusal) }

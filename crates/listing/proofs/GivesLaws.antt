@@ -22,7 +22,7 @@ use Rattle.listing.specs.declared.Listed.{Listed}
 use Rattle.listing.specs.Listing.{late_line, late_for, listing, Outcome, refused, shown, outcome, fitted, shown_as, listed, buffer_after}
 use Rattle.listing.specs.LateLines.{EmptyCore, LateLines}
 use Rattle.listing.specs.Gives.{Gives}
-use Rattle.listing.proofs.NumbersLaws.{lines_none, lines-some}
+use Rattle.listing.specs.NumbersLaws.{lines_none, lines-some}
 use Rattle.listing.proofs.Showing.{outcome_shown, ListsAs}
 
 -- ---- the late lines

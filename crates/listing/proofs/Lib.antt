@@ -1,4 +1,3 @@
 pub mod GivesLaws
-pub mod NumbersLaws
 pub mod Short
 pub mod Showing

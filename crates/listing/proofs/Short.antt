@@ -31,7 +31,7 @@ use Rattle.verdict.specs.Explained.{deciding_correct}
 use Rattle.listing.specs.Listing.{level_line, rule_line, late_line, lines_below, lines_for, late_for, word, late_head, listing_with, listing}
 use Rattle.listing.specs.Listing.{Outcome, refused, shown, outcome, max_listing}
 use Rattle.listing.specs.LateLines.{EmptyCore}
-use Rattle.listing.proofs.NumbersLaws.{lines_few, lines_none}
+use Rattle.listing.specs.NumbersLaws.{lines_few, lines_none}
 use Rattle.listing.proofs.GivesLaws.{late_lines_lem, RefusedOrListed, refusal, verdict, decided_either}
 
 -- ---- lines

@@ -19,7 +19,7 @@ use Rattle.listing.specs.declared.Shown.{Shown}
 use Rattle.listing.specs.Listing.{lines_for, late_for, word, late_head, listing_with, listing}
 use Rattle.listing.specs.Listing.{Outcome, shown, outcome_for, outcome, fitted, shown_as, listed, buffer_after}
 use Rattle.listing.specs.Numbers.{width, max_numbers, late_width, max_late, HasLines}
-use Rattle.listing.proofs.NumbersLaws.{lines_few, lines_wide, lines_back}
+use Rattle.listing.specs.NumbersLaws.{lines_few, lines_wide, lines_back}
 
 -- the head line of as many lines as the numbers have, theirs, and the late ones
 pub listing-parts : (head body lates : List ℕ) → let lines = chunks width body in

@@ -159,7 +159,7 @@ fn write(head: &[u8], numbers: &[u64], late: &[u64], out: &mut [u8]) -> Shown
 }
 
 // Shows what was decided on the lists in two slices of words: a refusal by its number, else the listing, or 9.
-#[tactic(auto, using(crate::proofs::NumbersLaws::lines_few, taskset::specs::WordsLaws::tasks_length))]
+#[tactic(auto, using(crate::specs::NumbersLaws::lines_few, taskset::specs::WordsLaws::tasks_length))]
 pub fn show(decided: Decided, rows: &[u64], rules: &[u64], out: &mut [u8]) -> Shown
     requires sound { Sound (lists_in rows.now rules.now) }
     requires left_value { marked decided.left ≡ unassignable (lists_in rows.now rules.now) }

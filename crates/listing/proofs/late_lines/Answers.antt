@@ -7,7 +7,7 @@ use Rattle.taskset.specs.Words.{tasks_in}
 use Rattle.taskset.specs.WordsLaws.{tasks_length}
 use Rattle.listing.specs.Listing.{late_line, lines_below}
 use Rattle.listing.specs.Numbers.{late_width, HasLines}
-use Rattle.listing.proofs.NumbersLaws.{written_none, written_room, written_turn}
+use Rattle.listing.specs.NumbersLaws.{written_none, written_room, written_turn}
 use Rattle.listing.proofs.late_lines.Goals as goal
 use Rattle.listing.proofs.late_lines.Goals.{In-loop-k}
 

@@ -4,7 +4,7 @@ use Rattle.sets.specs.Marks.{marked}
 use Rattle.taskset.specs.Words.{tasks_in}
 use Rattle.listing.specs.Listing.{late_line}
 use Rattle.listing.specs.Numbers.{late_width}
-use Rattle.listing.proofs.NumbersLaws.{Written}
+use Rattle.listing.specs.NumbersLaws.{Written}
 use Rattle.listing.proofs.late_lines.Given as goal
 
 abbrev pub invariant-loop-k : goal.invariant-loop-k

@@ -2,7 +2,7 @@
 use Rattle.std.proofs.Common.{◌≡◌, ◌+◌, ◌*◌, ◌≤◌, length, refl, arith}
 use Rattle.taskset.specs.Refusals.{max_tasks}
 use Rattle.listing.specs.Numbers.{width}
-use Rattle.listing.proofs.NumbersLaws.{written_none, written_room, written_in}
+use Rattle.listing.specs.NumbersLaws.{written_none, written_room, written_in}
 use Rattle.listing.proofs.level_lines.Goals as goal
 use Rattle.listing.proofs.level_lines.Goals.{In-loop-k}
 

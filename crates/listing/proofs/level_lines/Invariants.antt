@@ -2,7 +2,7 @@
 use Rattle.std.proofs.Common.{◌-◌, ◌≤◌, length, true}
 use Rattle.listing.specs.Listing.{level_line}
 use Rattle.listing.specs.Numbers.{width}
-use Rattle.listing.proofs.NumbersLaws.{Written}
+use Rattle.listing.specs.NumbersLaws.{Written}
 use Rattle.listing.proofs.level_lines.Given as goal
 
 abbrev pub invariant-loop-k : goal.invariant-loop-k

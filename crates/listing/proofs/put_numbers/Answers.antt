@@ -3,7 +3,7 @@ use Rattle.std.proofs.Common.{◌∙◌, refl, ap, arith}
 use Rattle.std.proofs.Math.ListN.{length-set}
 use Rattle.std.proofs.Math.Seq.{take_all}
 use Rattle.std.proofs.lemmas.List.Edits.{sets}
-use Rattle.listing.proofs.NumbersLaws.{nums_more}
+use Rattle.listing.specs.NumbersLaws.{nums_more}
 use Rattle.listing.proofs.put_numbers.Goals as goal
 
 pub loop-k-init : goal.loop-k-init

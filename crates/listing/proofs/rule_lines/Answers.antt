@@ -6,7 +6,7 @@ use Rattle.taskset.specs.Words.{rules_in}
 use Rattle.taskset.specs.WordsLaws.{rules_length}
 use Rattle.listing.specs.Listing.{rule_line, lines_below}
 use Rattle.listing.specs.Numbers.{width, HasLines}
-use Rattle.listing.proofs.NumbersLaws.{written_none, written_room, written_turn}
+use Rattle.listing.specs.NumbersLaws.{written_none, written_room, written_turn}
 use Rattle.listing.proofs.rule_lines.Goals as goal
 use Rattle.listing.proofs.rule_lines.Goals.{In-loop-k}
 

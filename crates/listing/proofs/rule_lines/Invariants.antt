@@ -4,7 +4,7 @@ use Rattle.sets.specs.Marks.{marked}
 use Rattle.taskset.specs.Words.{rules_in}
 use Rattle.listing.specs.Listing.{rule_line}
 use Rattle.listing.specs.Numbers.{width}
-use Rattle.listing.proofs.NumbersLaws.{Written}
+use Rattle.listing.specs.NumbersLaws.{Written}
 use Rattle.listing.proofs.rule_lines.Given as goal
 
 abbrev pub invariant-loop-k : goal.invariant-loop-k

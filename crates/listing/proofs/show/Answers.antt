@@ -6,7 +6,7 @@ use Rattle.taskset.specs.WordsLaws.{tasks_length}
 use Rattle.verdict.specs.declared.Answer.TheVariants.{Order, Core}
 use Rattle.listing.specs.Listing.{late_lines}
 use Rattle.listing.specs.Numbers.{width, late_width, HasLines, level_lines}
-use Rattle.listing.proofs.NumbersLaws.{lines_few, lines_length_all}
+use Rattle.listing.specs.NumbersLaws.{lines_few, lines_length_all}
 use Rattle.listing.proofs.Showing.{shows_lines}
 use Rattle.listing.proofs.show.Goals as goal
 

@@ -157,7 +157,7 @@ module _ {isIn : ℕ → Bool} {nums : ℕ → List ℕ} {wide long : ℕ} where
           has = subst (HasLines wide (lines_below isIn nums (k + 1))) (sym is) more.1;
         }
 
-    written_out : isIn k ≡ false → Written isIn nums wide long (k + 1) n numbers
+    pub written_out : isIn k ≡ false → Written isIn nums wide long (k + 1) n numbers
     written_out e =
         let same = has_out isIn nums k e in
         record { size = w.size; count = rw (← same) w.count; has = rw (← same) w.has }

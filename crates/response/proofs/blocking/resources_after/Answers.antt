@@ -1,5 +1,5 @@
 -- `response::blocking::resources_after` meets its contract: a turn takes the task's section into one entry more.
-use Rattle.std.proofs.Common.{◌≡◌, ◌<◌, ◌∙◌, le_refl, arith}
+use Rattle.std.proofs.Common.{◌≡◌, ◌<◌, ◌∙◌, max, ap, le_refl, arith}
 use Rattle.sets.specs.Choice.{pick}
 use Rattle.sets.specs.Marks.{filled_old, filled_more}
 use Rattle.taskset.specs.Refusals.{resources}
@@ -36,10 +36,11 @@ loop-k-preserved c =
     let inv = c.loop-k.invariant in
     let same = inv.users_filled.rest c.loop-k.k (le_refl c.loop-k.k) (known at) in
     let held = inv.held_filled.rest c.loop-k.k (le_refl c.loop-k.k) (known at) in
+    let section = c.section_in-section in
     record {
       in_range = omega arith;
       users_filled = filled_more inv.users_filled (known at) (rw (same, taken at));
-      held_filled = filled_more inv.held_filled (known at) (c.larger.ensures ∙ rw (held, c.section_in-section.ensures));
+      held_filled = filled_more inv.held_filled (known at) (c.larger.ensures ∙ ap (λ h. max h section.result) held ∙ ap (max _) section.ensures);
     }
 
 pub returns : goal.returns

@@ -1,5 +1,6 @@
 -- Cases K1 to K13 of document 01 as one list of facts about the definitions, with one proof: K4 with its listing by document 02, (b),
 -- K12 and K13 with the sections of (c), and what the ceiling protocol charges a task between two others. Assumes nothing.
+use Rattle.std.specs.Prelude.{Option, Some}
 use Rattle.std.specs.Prelude.{◌≡◌, refl, true, false, ℕ}
 use Rattle.std.proofs.Common.{subst}
 use mathlib.Core.List.{List, [], ◌∷◌, ◌++◌, map, flat_map}
@@ -13,12 +14,10 @@ use Rattle.taskset.specs.declared.Task.{Task}
 use Rattle.taskset.specs.declared.Rule.{Rule}
 use Rattle.taskset.specs.Refusals.{section_on, longest_section, row_refusals, index_refusals, refusal_by}
 use Rattle.taskset.specs.Model.{Lists, no_lists, hear, heard, Sound}
-use Rattle.taskset.specs.Words.{task_of, rule_of}
+use Rattle.taskset.specs.Numbers.{task_of, rule_of}
 use Rattle.taskset.specs.Holding.{none_sound, heard_sound}
 use Rattle.taskset.specs.Exact.{calls_of}
 use Rattle.text.specs.Text.{are_numbers, has_form, asked, read_from, reading}
-use Rattle.response.specs.declared.Response.{Response}
-use Rattle.response.specs.declared.Response.TheVariants.{Within}
 use Rattle.response.specs.Blocking.{blocking_of}
 use Rattle.response.specs.Equation.{interference, demand, window_from, window_of, response_of}
 use Rattle.response.specs.Timing.{timing_by}
@@ -60,7 +59,7 @@ abbrev pub as_typed : List ℕ
 as_typed = 0 ∷ 1 ∷ 2 ∷ []
 
 -- the responses of an order, each up to its deadline
-abbrev pub responses_of : List Task → List ℕ → List Response
+abbrev pub responses_of : List Task → List ℕ → List (Option ℕ)
 responses_of tasks order = map (λ i. response_at tasks i (hp order i)) order
 
 -- the end of a task line without sections
@@ -92,7 +91,7 @@ late_listing =
     ++ (108 ∷ 97 ∷ 116 ∷ 101 ∷ 9 ∷ 50 ∷ 9 ∷ 49 ∷ 48 ∷ 10 ∷ [])
 
 pub record Cases : Type 0 where
-  pub k1 : responses_of (sheet_a 0 12) as_typed ≡ Within 1 ∷ Within 3 ∷ Within 10 ∷ []
+  pub k1 : responses_of (sheet_a 0 12) as_typed ≡ Some 1 ∷ Some 3 ∷ Some 10 ∷ []
   pub k2 : (demand (sheet_a 0 12) 2 (hp as_typed 2) 9 ≡ 10) × (demand (sheet_a 0 12) 2 (hp as_typed 2) 10 ≡ 10)
   pub k3 : SomeOrder (sheet (sheet_a 0 10) []) every_rule
   pub k4 : (verdict_on (sheet (sheet_a 0 9) []) ≡ cored []) × (listing (sheet (sheet_a 0 9) []) (cored []) ≡ late_listing)
@@ -101,10 +100,10 @@ pub record Cases : Type 0 where
   pub k7 : verdict_on (sheet (sheet_a 0 12) (above 0 1 ∷ above 1 0 ∷ [])) ≡ cored (true ∷ true ∷ [])
   pub k8 : verdict_on (sheet sheet_b (above 1 0 ∷ above 2 0 ∷ [])) ≡ cored (true ∷ true ∷ [])
   pub k9 : ValidOrder (sheet sheet_b (above 1 0 ∷ [])) every_rule (1 ∷ 0 ∷ 2 ∷ [])
-      × (responses_of sheet_b (1 ∷ 0 ∷ 2 ∷ []) ≡ Within 2 ∷ Within 4 ∷ Within 6 ∷ [])
-  pub k10 : response_at (sheet_a 1 12) 1 (hp as_typed 1) ≡ Within 3
-  pub k11 : response_at (sheet_a 2 12) 1 (hp as_typed 1) ≡ Within 4
-  pub k12 : responses_of (sharing 3) (0 ∷ 1 ∷ []) ≡ Within 4 ∷ Within 4 ∷ []
+      × (responses_of sheet_b (1 ∷ 0 ∷ 2 ∷ []) ≡ Some 2 ∷ Some 4 ∷ Some 6 ∷ [])
+  pub k10 : response_at (sheet_a 1 12) 1 (hp as_typed 1) ≡ Some 3
+  pub k11 : response_at (sheet_a 2 12) 1 (hp as_typed 1) ≡ Some 4
+  pub k12 : responses_of (sharing 3) (0 ∷ 1 ∷ []) ≡ Some 4 ∷ Some 4 ∷ []
   pub k13 : verdict_on (sheet (sharing 4) []) ≡ cored []
   -- the task between is blocked over a resource that it does not use itself; the lowest is not
   pub ceiling : map (λ i. blocking_of between i (hp as_typed i)) as_typed ≡ 3 ∷ 3 ∷ 0 ∷ []

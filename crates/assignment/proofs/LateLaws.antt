@@ -1,6 +1,7 @@
 -- Who is left without a level. Where no rule is active these are, for any test that fewer tasks above can't break, the same tasks
 -- whichever of those that may takes each level: the largest set of tasks of which each fails with the others above it. Then for
 -- document 01's test. Assumes nothing.
+use Rattle.std.specs.Prelude.{Option, is_some}
 use Rattle.std.specs.Prelude.{◌≡◌, refl, Bool, false, List, [], ◌∷◌, ◌⊎◌, ◌↔◌, ℕ, suc, ◌<◌, eqb, length, get_or, replicate}
 use Rattle.std.proofs.Common.{sym, subst, ◌∙◌, inl, inr, suc-le-suc, not-suc-le-zero, eq-zero-or-pos, arith, eqb→eq}
 use Rattle.std.proofs.Math.Path.{fun_ext}
@@ -11,7 +12,6 @@ use Rattle.sets.specs.Bounded.{Subset, without, without_still, without_other, co
 use Rattle.sets.specs.Marks.{marked, marked-none}
 use Rattle.taskset.specs.declared.Rule.{Rule}
 use Rattle.taskset.specs.Model.{Lists, task_at, Sound}
-use Rattle.response.specs.declared.Response.{Response}
 use Rattle.response.specs.declared.Timing.{Timing}
 use Rattle.response.specs.declared.Timing.TheVariants.{Met, Missed, PastPeriod}
 use Rattle.response.specs.Equation.{demand}
@@ -21,7 +21,7 @@ use Rattle.assignment.specs.declared.Search.{Search}
 use Rattle.assignment.specs.Orders.{no_rule, MeetsDeadline, SomeOrder}
 use Rattle.assignment.specs.Canonical.{MayTake, Canonical}
 use Rattle.assignment.specs.LateTasks.{EachMay, CanonicalSearch, AllMiss, SearchEnds, LateResponse, LateTasks, unassignable, late_response}
-use Rattle.assignment.specs.Audsley.{Problem, Passes, is_within, unassigned, assign, feasible, Filled, empty, level, Stuck, problem}
+use Rattle.assignment.specs.Audsley.{Problem, Passes, unassigned, assign, feasible, Filled, empty, level, Stuck, problem}
 use Rattle.assignment.specs.Levels.{unassigned_of, unassigned_is, unassigned_cons, none_left, each_order, left-unassigned, may_other}
 use Rattle.assignment.specs.Decision.{Lawful, test_may, may_test, filled_each_may, filled_count, assign-ends, assign_filled}
 use Rattle.assignment.proofs.CanonicalLaws.{assign-greatest}
@@ -195,9 +195,9 @@ module _ (l : Lists) (sound : Sound l) where
       let above = without rest i in
       let d = demand l.tasks i above in
       go (timing_of l.tasks i above) (timing_says d at.jitter at.deadline at.period)
-      (λ s. fails i inside t (subst (λ (a : Response). T (is_within a)) (sym (level_stops l.tasks sound.tasks i inside above)) s))
+      (λ s. fails i inside t (subst (λ (a : Option ℕ). T (is_some a)) (sym (level_stops l.tasks sound.tasks i inside above)) s))
     where
-      go : (a : Timing) → SaysTiming l.tasks i (without rest i) a → (T (is_within (up_to_deadline a)) → ⊥)
+      go : (a : Timing) → SaysTiming l.tasks i (without rest i) a → (T (is_some (up_to_deadline a)) → ⊥)
           → LateResponse l.tasks i (without rest i) (reported a)
       go (Met r) s late = absurd (late tt)
       go (Missed r) s late = record { positive = λ h. s; zero = λ z. absurd (omega (arith, s.1, z)) }

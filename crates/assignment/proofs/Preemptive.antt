@@ -1,36 +1,37 @@
 -- The preemptive test of document 01 as an instance: a task passes when its response lies within its deadline. Assumes nothing.
-use Rattle.std.specs.Prelude.{◌≡◌, refl, Bool, List, ◌↔◌, ℕ, T, length}
+use Rattle.std.specs.Prelude.{Option, Some, None, is_some}
+use Rattle.std.specs.Prelude.{◌≡◌, refl, Bool, true, ◌&&◌, List, ◌↔◌, ℕ, ◌-◌, ◌≤◌, ◌<◌, T, length, get_or}
 use Rattle.std.proofs.Common.{sym, subst, ⊎_elim, not-suc-le-zero, arith, eqb→eq}
 use Rattle.sets.specs.Bounded.{Subset}
+use Rattle.sets.specs.Marks.{marked}
 use Rattle.taskset.specs.declared.Task.{Task}
 use Rattle.taskset.specs.declared.Rule.{Rule}
 use Rattle.taskset.specs.Model.{Lists, task_at, SoundTasks, Sound}
-use Rattle.response.specs.declared.Response.{Response}
-use Rattle.response.specs.declared.Response.TheVariants.{Within, Late}
 use Rattle.response.specs.Equation.{demand, SaysResponse}
 use Rattle.response.specs.Agreement.{response_says}
 use Rattle.response.proofs.Demand.{fewer_above}
 use Rattle.assignment.specs.declared.Search.{Search}
-use Rattle.assignment.specs.Orders.{Valid, MeetsDeadline, ValidOrder, SomeOrder}
+use Rattle.assignment.specs.Orders.{Valid, MeetsDeadline, ValidOrder, SomeOrder, no_rule}
 use Rattle.assignment.specs.Canonical.{CanonicalOrder, GreatestOrder}
-use Rattle.assignment.specs.Audsley.{is_within, Passes, assign, feasible, response_at, problem, bare}
+use Rattle.assignment.specs.Audsley.{Passes, assign, feasible, response_at, problem, bare}
 use Rattle.assignment.specs.Levels.{valid_each, each_valid}
 use Rattle.assignment.specs.Decision.{Lawful, SomeValid, feasible_exactly, feasible_fewer}
 use Rattle.assignment.proofs.CanonicalLaws.{greater_once, canonical_greatest, canonical_other, assign_canonical}
-use Rattle.assignment.specs.Search.{Ended}
-use Rattle.assignment.specs.Filling.{ended_decides}
+use Rattle.assignment.specs.Search.{index, candidate, within, Searched, Ended, Known}
+use Rattle.assignment.specs.Hints.{known_any, NoneFrom, none_next, last_task, last_any}
+use Rattle.assignment.specs.Filling.{chosen_any, ended_decides}
 
 -- ---- the test says what the words say
 
 pub meets_exactly : (tasks : List Task) (i : ℕ) (above : ℕ → Bool)
-    → T (is_within (response_at tasks i above)) ↔ MeetsDeadline tasks i above
+    → T (is_some (response_at tasks i above)) ↔ MeetsDeadline tasks i above
 meets_exactly tasks i above =
     go (response_at tasks i above) (response_says (demand tasks i above) (task_at tasks i).jitter (task_at tasks i).deadline)
   where
-    go : (r : Response) → SaysResponse tasks i above (task_at tasks i).deadline r
-        → T (is_within r) ↔ MeetsDeadline tasks i above
-    go (Within r) s = (λ t. (s.0, s.1, omega (arith, s.2, s.3)), λ m. tt)
-    go Late s = (λ t. absurd t, λ m. omega (arith, s m.0 m.1.low m.1.met, m.2))
+    go : (r : Option ℕ) → SaysResponse tasks i above (task_at tasks i).deadline r
+        → T (is_some r) ↔ MeetsDeadline tasks i above
+    go (Some r) s = (λ t. (s.0, s.1, omega (arith, s.2, s.3)), λ m. tt)
+    go None s = (λ t. absurd t, λ m. omega (arith, s m.0 m.1.low m.1.met, m.2))
 
 meets_other : {n : ℕ} {rules : List Rule} {M N : ℕ → (ℕ → Bool) → Type 0} {active : ℕ → Bool} {order : List ℕ}
     → ((i : ℕ) (above : ℕ → Bool) → M i above → N i above) → Valid n rules M active order → Valid n rules N active order
@@ -51,17 +52,38 @@ lawful l s =
       fewer = λ i less above sub t. go i less above sub (response_at l.tasks i above) refl t;
     }
   where
-    go : (i : ℕ) (less above : ℕ → Bool) → Subset (length l.tasks) less above → (r : Response)
-        → response_at l.tasks i above ≡ r → T (is_within r)
-        → T (is_within (response_at l.tasks i less))
-    go i less above sub (Within r) e t =
+    go : (i : ℕ) (less above : ℕ → Bool) → Subset (length l.tasks) less above → (r : Option ℕ)
+        → response_at l.tasks i above ≡ r → T (is_some r)
+        → T (is_some (response_at l.tasks i less))
+    go i less above sub (Some r) e t =
         let q = fewer_above s.tasks i less above sub (task_at l.tasks i).deadline r e in
-        subst (λ (a : Response). T (is_within a)) (sym q.1) tt
-    go i less above sub Late e t = absurd t
+        subst (λ (a : Option ℕ). T (is_some a)) (sym q.1) tt
+    go i less above sub None e t = absurd t
 
 -- also without rules
 pub bare_lawful : {tasks : List Task} → SoundTasks tasks → Lawful (bare tasks)
 bare_lawful ok = lawful _ (record { tasks = ok; few_rules = omega arith; indices = λ k h. absurd (not-suc-le-zero h) })
+
+-- a ready task that is known to pass may take the level
+pub bare_known : (tasks : List Task) (ready left known : List Bool) → Known (bare tasks) (marked left) (marked known) → (i : ℕ)
+    → i < length tasks → (marked ready i && marked known i) ≡ true
+    → T (within (candidate (response_at tasks) (marked ready) (marked left)) i)
+bare_known tasks ready left known = known_any (bare tasks) (marked ready) (marked left) (marked known)
+
+-- the task at a level of a search without rules, where nobody left stands further down: one of the tasks, and where it is ready it
+-- may take the level
+module _ (tasks : List Task) (sound : SoundTasks tasks) (s : Search) (held : Searched (bare tasks) no_rule s) (level : ℕ)
+    (here : s.free < level) (high : level ≤ length tasks) where
+  pub bare_last : (get_or s.order (level - 1) (index 0)).0 < length tasks
+  bare_last = last_task (bare tasks) (bare_lawful sound) no_rule s held level here high
+
+  pub bare_any : (ready left : ℕ → Bool) → NoneFrom (length tasks) s.order left level
+      → ready (get_or s.order (level - 1) (index 0)).0 ≡ true
+      → T (within (candidate (response_at tasks) ready left) (get_or s.order (level - 1) (index 0)).0)
+  bare_any = last_any (bare tasks) (bare_lawful sound) no_rule s held level here high
+
+-- for a loop over its levels from the last up
+pub ruleset last_steps = (bare_last, none_next, chosen_any)
 
 -- ---- so the assignment decides whether a valid order exists
 

@@ -1,24 +1,19 @@
 -- The revised Audsley assignment of source document 001, over any test of a task at a level: levels are filled from the lowest
 -- upward, and of the tasks that may take one the task with the greatest index takes it, as document 02 has it in (a). `Canonical`
 -- says that without the search; for whether an order is found the choice doesn't matter (`Decision`). Assumes nothing.
-use Rattle.std.specs.Prelude.{Bool, true, false, ◌&&◌, not, List, [], ◌∷◌, ℕ, zero, suc, ◌<◌, T, leb, ltb, eqb, length}
+use Rattle.std.specs.Prelude.{Option, is_some}
+use Rattle.std.specs.Prelude.{Bool, ◌&&◌, not, List, [], ◌∷◌, ℕ, zero, suc, ◌<◌, T, leb, ltb, eqb, length}
 use Rattle.sets.specs.Choice.{option}
 use Rattle.sets.specs.Bounded.{without, all, greatest}
 use Rattle.sets.specs.Rank.{rank}
 use Rattle.taskset.specs.declared.Task.{Task}
 use Rattle.taskset.specs.declared.Rule.{Rule}
 use Rattle.taskset.specs.Model.{Lists, task_at, rule_at}
-use Rattle.response.specs.declared.Response.{Response}
-use Rattle.response.specs.declared.Response.TheVariants.{Within, Late}
 use Rattle.response.specs.Equation.{response_time}
 
 -- a test of a task with a set of tasks above it and all others below: its response, or that it is late
 abbrev pub Test : Type 0
-Test = ℕ → (ℕ → Bool) → Response
-
-abbrev pub is_within : Response → Bool
-is_within (Within r) = true
-is_within Late = false
+Test = ℕ → (ℕ → Bool) → Option ℕ
 
 -- tasks 0 to n − 1, rules between them, and the test
 pub record Problem : Type 0 where
@@ -31,7 +26,7 @@ abbrev pub without_rules : Problem → Problem
 without_rules p = record { tasks = p.tasks; rules = []; test = p.test }
 
 abbrev pub passes : Problem → ℕ → (ℕ → Bool) → Bool
-passes p i above = is_within (p.test i above)
+passes p i above = is_some (p.test i above)
 
 abbrev pub Passes : Problem → ℕ → (ℕ → Bool) → Type 0
 Passes p i above = T (passes p i above)

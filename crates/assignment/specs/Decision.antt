@@ -1,10 +1,10 @@
 -- The revised Audsley assignment is right for any test that fewer tasks above can't break: what it fills is a valid order, and
 -- where it gets stuck there is none. So it decides, for any active rules, whether a valid order exists; from any levels that
 -- it could have filled it goes on to the same answer. Assumes nothing.
+use Rattle.std.specs.Prelude.{Option}
 use Rattle.std.specs.Prelude.{◌≡◌, Bool, ◌&&◌, not, List, [], ◌∷◌, ◌⊎◌, ◌↔◌, eqb, get_or, drop}
 use Rattle.std.proofs.Common.{sym, ap, subst, ◌∙◌, ⊎_elim, not-suc-le-zero, le_of_suc-le-suc, eq-zero-or-pos, arith, le→leb, eqb→eq, length-drop, get_or-drop, eq-eqb}
 use Rattle.std.proofs.Math.Logic.{inl, inr}
-use Rattle.std.proofs.Math.Option.{Option}
 use Prim.Native.Nat.{ℕ, zero, suc, ◌+◌, ◌<◌}
 use Rattle.std.proofs.Math.Dec.{T, eqb_refl}
 use Rattle.std.proofs.Math.ListN.{length}

@@ -1,11 +1,11 @@
 -- Filling levels, over any test: what the arrays of a search become when a task takes the next level, and what they say when
 -- nobody does. Assumes nothing.
+use Rattle.std.specs.Prelude.{Option, Some, None, is_some, option_map}
 use Rattle.std.proofs.Math.Path.{◌≡◌, refl, sym, ap, subst, fun_ext}
 use Rattle.std.proofs.Common.{◌∙◌, inl, inr, ⊎_elim, arith, get_or-append-add}
 use Rattle.std.specs.Prelude.{Bool, ◌&&◌, ◌↔◌, T, ltb, get_or, set, replicate}
 use Rattle.std.proofs.Math.Bool.{true, false}
 use mathlib.Core.List.{List, [], ◌∷◌, ◌++◌, map}
-use Rattle.std.proofs.Math.Option.{Option, none, some}
 use Prim.Native.Nat.{ℕ, zero, suc, ◌+◌, ◌-◌, ◌≤◌, ◌<◌}
 use Rattle.std.proofs.Math.ListN.{length, get_or-append}
 use Rattle.std.proofs.lemmas.List.{replicate-append-replicate, length-map, length-replicate}
@@ -14,15 +14,12 @@ use Rattle.sets.specs.Bounded.{Subset, without, greatest, Greatest, found, nothi
 use Rattle.sets.specs.Marks.{first, marked, marked-without}
 use Rattle.taskset.specs.declared.TaskIndex.{TaskIndex}
 use Rattle.taskset.specs.Refusals.{max_tasks}
-use Rattle.response.specs.declared.Response.{Response}
-use Rattle.response.specs.declared.Response.TheVariants.{Late}
 use Rattle.assignment.specs.declared.Choice.{Choice}
-use Rattle.assignment.specs.declared.Choice.TheVariants.{Takes, Nobody}
 use Rattle.assignment.specs.declared.Search.{Search}
-use Rattle.assignment.specs.Audsley.{is_within, Problem, ready, unassigned, may_take, fill, feasible, level, Stuck}
+use Rattle.assignment.specs.Audsley.{Problem, ready, unassigned, may_take, fill, assign, feasible, empty, level, Stuck}
 use Rattle.assignment.specs.Levels.{unassigned_cons}
 use Rattle.assignment.specs.Decision.{Lawful, filled_count, filled_fewer, ends_decide, feasible_exactly}
-use Rattle.assignment.specs.Search.{index, time, candidate, chosen, AnyOf, lowest, Holds, candidates, lowest_free, placed}
+use Rattle.assignment.specs.Search.{index, time, candidate, within, choice_of, chosen, AnyOf, lowest, Holds, candidates, placed}
 use Rattle.assignment.specs.Search.{Searched, Ended, responses, HoldsLevels, Assigns}
 
 -- ---- the arrays
@@ -59,74 +56,65 @@ lowest_at n d xs k h =
 
 -- ---- a search with no level filled
 
-pub holds_none : (n m : ℕ) (left : List Bool) → m ≡ n → n ≤ max_tasks → marked left ≡ first m
-    → Holds n [] [] (record { order = replicate max_tasks (index 0); responses = replicate max_tasks 0; free = m; left = left })
+pub holds_none : (n : ℕ) (left : List Bool) → n ≤ max_tasks → marked left ≡ first n
+    → Holds n [] [] (record { order = replicate max_tasks (index 0); responses = replicate max_tasks 0; free = n; left = left })
 unfolding unassigned
-holds_none n m left count few marks =
+holds_none n left few marks =
     record {
       order = lowest-none n (index 0) few;
       responses = lowest-none n 0 few;
       long = refl;
       free = omega arith;
-      left = marks ∙ fun_ext (λ j. ap (ltb j) count ∙ and-true (ltb j n));
+      left = marks ∙ fun_ext (λ j. and-true (ltb j n));
     }
 
 -- ---- one level more
 
-holds_next : {n : ℕ} {low times : List ℕ} {s : Search} → Holds n low times s → 1 ≤ s.free → (t : TaskIndex) → t.0 < length s.left
-    → (r : ℕ) → Holds n (t.0 ∷ low) (r ∷ times) (placed s (lowest_free s.free) t r)
-holds_next {n} {low} {times} {s} holds more t h r =
+holds_next : {n : ℕ} {low times : List ℕ} {s : Search} → Holds n low times s → 1 ≤ s.free → (c : Choice) → c.task.0 < length s.left
+    → Holds n (c.task.0 ∷ low) (c.response ∷ times) (placed s c)
+holds_next {n} {low} {times} {s} holds more c h =
     let room : suc (s.free - 1) + length low ≡ n = omega (arith, holds.free) in
     record {
       order =
-          ap (λ (xs : List TaskIndex). set xs (s.free - 1) t) holds.order
-          ∙ lowest_set n (s.free - 1) (index 0) t (map index low) (omega (arith, room, length-map low index));
+          ap (λ (xs : List TaskIndex). set xs (s.free - 1) c.task) holds.order
+          ∙ lowest_set n (s.free - 1) (index 0) c.task (map index low) (omega (arith, room, length-map low index));
       responses =
-          ap (λ (xs : List ℕ). set xs (s.free - 1) r) holds.responses
-          ∙ lowest_set n (s.free - 1) 0 r times (omega (arith, room, holds.long));
+          ap (λ (xs : List ℕ). set xs (s.free - 1) c.response) holds.responses
+          ∙ lowest_set n (s.free - 1) 0 c.response times (omega (arith, room, holds.long));
       long = ap suc holds.long;
       free = omega (arith, holds.free);
       left =
-          marked-without s.left t.0 h
-          ∙ ap (λ (f : ℕ → Bool). without f t.0) holds.left
-          ∙ sym (unassigned_cons n low t.0);
+          marked-without s.left c.task.0 h
+          ∙ ap (λ (f : ℕ → Bool). without f c.task.0) holds.left
+          ∙ sym (unassigned_cons n low c.task.0);
     }
 
 -- ---- who was chosen
 
-module _ (n : ℕ) (candidates : ℕ → Response) where
-  abbrev within : ℕ → Bool
-  within i = is_within (candidates i)
-
-  chose : (t : TaskIndex) (r : ℕ) → Takes t r ≡ chosen n candidates
-      → (greatest n within ≡ some t.0) × (r ≡ time (candidates t.0))
+module _ (n : ℕ) (candidates : ℕ → Option ℕ) where
+  chose : (c : Choice) → Some c ≡ chosen n candidates → (greatest n (within candidates) ≡ Some c.task.0) × (c.response ≡ time (candidates c.task.0))
   unfolding chosen
-  chose t r e = go (greatest n within) refl e
+  chose c e = go (greatest n (within candidates)) refl e
     where
-      go : (o : Option ℕ) → greatest n within ≡ o → Takes t r ≡ option Nobody (λ i. Takes (index i) (time (candidates i))) o
-          → (greatest n within ≡ some t.0) × (r ≡ time (candidates t.0))
-      go (some i) f e =
-          let same : index i ≡ t = cc in
-          let at : i ≡ t.0 = ap (λ (j : TaskIndex). j.0) same in
-          let own : r ≡ time (candidates i) = cc in
-          (f ∙ ap some at, own ∙ ap (λ (j : ℕ). time (candidates j)) at)
-      go none f e = let z : ◌≡◌ {A = ℕ} 0 1 = cc in absurd (omega arith)
+      go : (o : Option ℕ) → greatest n (within candidates) ≡ o → Some c ≡ option_map (choice_of candidates) o
+          → (greatest n (within candidates) ≡ Some c.task.0) × (c.response ≡ time (candidates c.task.0))
+      go (Some i) f e = let same : choice_of candidates i ≡ c = cc in rw (← same) (f, refl)
+      go None f e = cc
 
-  chose_nobody : Nobody ≡ chosen n candidates → greatest n within ≡ none
+  chose_nobody : None ≡ chosen n candidates → greatest n (within candidates) ≡ None
   unfolding chosen
-  chose_nobody e = go (greatest n within) refl e
+  chose_nobody e = go (greatest n (within candidates)) refl e
     where
-      go : (o : Option ℕ) → greatest n within ≡ o → Nobody ≡ option Nobody (λ i. Takes (index i) (time (candidates i))) o
-          → greatest n within ≡ none
-      go (some i) f e = let z : ◌≡◌ {A = ℕ} 0 1 = cc in absurd (omega arith)
-      go none f e = f
+      go : (o : Option ℕ) → greatest n (within candidates) ≡ o → None ≡ option_map (choice_of candidates) o → greatest n (within candidates) ≡ None
+      go (Some i) f e = cc
+      go None f e = f
 
   -- it is one of those that may
-  pub chosen-any : {r : Choice} → r ≡ chosen n candidates → AnyOf n candidates r
+  pub chosen_any : {r : Option Choice} → r ≡ chosen n candidates → AnyOf n candidates r
   unfolding chosen
-  chosen-any {r} e = subst (AnyOf n candidates) (sym e) (go (greatest n within) (greatest_is n within))
+  chosen_any {r} e = subst (AnyOf n candidates) (sym e) (go (greatest n (within candidates)) (greatest_is n (within candidates)))
     where
-      go : (o : Option ℕ) → Greatest n within o → AnyOf n candidates (option Nobody (λ i. Takes (index i) (time (candidates i))) o)
+      go : (o : Option ℕ) → Greatest n (within candidates) o → AnyOf n candidates (option_map (choice_of candidates) o)
       go o (found i g) = (g.below, g.passes)
       go o (nothing out) = out
 
@@ -138,12 +126,12 @@ module _ (p : Problem) (active : ℕ → Bool) where
 
   -- the candidates within the deadline are the tasks that may take the level
   candidates_may : (left : ℕ → Bool)
-      → (λ i. is_within (candidate p.test (ready p.rules active left) left i)) ≡ may_take p active left
+      → within (candidate p.test (ready p.rules active left) left) ≡ may_take p active left
   unfolding may_take
   candidates_may left = fun_ext (λ i. go i (ready p.rules active left i))
     where
       go : (i : ℕ) (b : Bool)
-          → is_within (pick b (p.test i (without left i)) Late) ≡ (b && is_within (p.test i (without left i)))
+          → is_some (pick b (p.test i (without left i)) None) ≡ (b && is_some (p.test i (without left i)))
       go i true = refl
       go i false = refl
 
@@ -152,9 +140,6 @@ module _ (p : Problem) (active : ℕ → Bool) where
   Reached from s =
       (start : List ℕ) → HoldsLevels p start from
       → (low : List ℕ) × HoldsLevels p low s × (fill p active (n - length low) low ≡ fill p active (n - length start) start)
-
-  pub reached_first : (from : Search) → Reached from from
-  reached_first from start h = (start, h, refl)
 
   pub reached_full : (from s : Search) → s.free ≡ 0 → Reached from s → Assigns p active from s
   unfolding fill
@@ -178,34 +163,35 @@ module _ (p : Problem) (active : ℕ → Bool) where
       (λ z. f.1 (d.0 (omega (arith, z, held.holds.free, few))), λ t. omega (arith, d.1 (f.0 t), held.holds.free))
 
   module _ (s : Search) (readies : ℕ → Bool) (is-ready : readies ≡ ready p.rules active (marked s.left)) where
-    may : (λ i. is_within (candidates p readies s i)) ≡ may_take p active (marked s.left)
+    may : within (candidates p readies s) ≡ may_take p active (marked s.left)
     may =
-        ap {B = ℕ → Bool} (λ f i. is_within (candidate p.test f (marked s.left) i)) is-ready
+        ap {B = ℕ → Bool} (λ f i. is_some (candidate p.test f (marked s.left) i)) is-ready
         ∙ candidates_may (marked s.left)
 
-    pub any_stuck : AnyOf n (candidates p readies s) Nobody → Stuck p active (marked s.left)
+    pub any_stuck : AnyOf n (candidates p readies s) None → Stuck p active (marked s.left)
     any_stuck out i h t = out i h (subst (λ (f : ℕ → Bool). T (f i)) (sym may) t)
 
     -- whoever takes the level, it may have been filled so
-    pub searched_next : Searched p active s → 1 ≤ s.free → (t : TaskIndex) (r : ℕ) → AnyOf n (candidates p readies s) (Takes t r)
-        → t.0 < length s.left → Searched p active (placed s (lowest_free s.free) t r)
-    searched_next held more t r any h =
+    pub searched_next : Searched p active s → 1 ≤ s.free → (c : Choice) → AnyOf n (candidates p readies s) (Some c)
+        → c.task.0 < length s.left → Searched p active (placed s c)
+    searched_next held more c any h =
         record {
-          low = t.0 ∷ held.low;
-          times = r ∷ held.times;
+          low = c.task.0 ∷ held.low;
+          times = c.response ∷ held.times;
           filled =
-              level t.0 held.low any.0
-              (subst (λ (f : ℕ → Bool). T (may_take p active f t.0)) held.holds.left (subst (λ (f : ℕ → Bool). T (f t.0)) may any.1))
+              level c.task.0 held.low any.0
+              (subst (λ (f : ℕ → Bool). T (may_take p active f c.task.0)) held.holds.left
+              (subst (λ (f : ℕ → Bool). T (f c.task.0)) may any.1))
               held.filled;
-          holds = holds_next held.holds more t h r;
+          holds = holds_next held.holds more c h;
         }
 
     -- and where the greatest does, it is the assignment's own
     module _ (low : List ℕ) (holds : HoldsLevels p low s) (more : 1 ≤ s.free) where
-      best : greatest n (λ i. is_within (candidates p readies s i)) ≡ greatest n (may_take p active (unassigned n low))
+      best : greatest n (within (candidates p readies s)) ≡ greatest n (may_take p active (unassigned n low))
       best = ap (greatest n) may ∙ ap (λ (f : ℕ → Bool). greatest n (may_take p active f)) holds.left
 
-      fills : (o : Option ℕ) → greatest n (λ i. is_within (candidates p readies s i)) ≡ o
+      fills : (o : Option ℕ) → greatest n (within (candidates p readies s)) ≡ o
           → fill p active (n - length low) low ≡ option low (λ i. fill p active (n - suc (length low)) (i ∷ low)) o
       unfolding fill
       fills o e =
@@ -214,36 +200,35 @@ module _ (p : Problem) (active : ℕ → Bool) where
           ∙ ap (option low (λ i. fill p active (n - suc (length low)) (i ∷ low))) (sym best ∙ e)
 
       -- its response is that of a ready task
-      own : (t : TaskIndex) → T (is_within (candidates p readies s t.0))
-          → time (candidates p readies s t.0) ≡ time (p.test t.0 (unassigned n (t.0 ∷ low)))
-      own t w =
-          go (readies t.0) w
-          ∙ ap (λ (f : ℕ → Bool). time (p.test t.0 (without f t.0))) holds.left
-          ∙ ap (λ (f : ℕ → Bool). time (p.test t.0 f)) (sym (unassigned_cons n low t.0))
+      own : (i : ℕ) → T (within (candidates p readies s) i) → time (candidates p readies s i) ≡ time (p.test i (unassigned n (i ∷ low)))
+      own i w =
+          go (readies i) w
+          ∙ ap (λ (f : ℕ → Bool). time (p.test i (without f i))) holds.left
+          ∙ ap (λ (f : ℕ → Bool). time (p.test i f)) (sym (unassigned_cons n low i))
         where
-          go : (b : Bool) → T (is_within (pick b (p.test t.0 (without (marked s.left) t.0)) Late))
-              → time (pick b (p.test t.0 (without (marked s.left) t.0)) Late) ≡ time (p.test t.0 (without (marked s.left) t.0))
+          go : (b : Bool) → T (is_some (pick b (p.test i (without (marked s.left) i)) None))
+              → time (pick b (p.test i (without (marked s.left) i)) None) ≡ time (p.test i (without (marked s.left) i))
           go true v = refl
           go false v = absurd v
 
     module _ (from : Search) (reached : Reached from s) (more : 1 ≤ s.free) where
-      pub reached_stuck : Nobody ≡ chosen n (candidates p readies s) → Assigns p active from s
+      pub reached_stuck : None ≡ chosen n (candidates p readies s) → Assigns p active from s
       reached_stuck e start h =
           let r = reached start h in
           subst (λ (low : List ℕ). HoldsLevels p low s)
-          (sym (fills r.0 r.1 more none (chose_nobody n (candidates p readies s) e)) ∙ r.2) r.1
+          (sym (fills r.0 r.1 more None (chose_nobody n (candidates p readies s) e)) ∙ r.2) r.1
 
-      pub reached_next : (t : TaskIndex) (q : ℕ) → t.0 < length s.left → Takes t q ≡ chosen n (candidates p readies s)
-          → Reached from (placed s (lowest_free s.free) t q)
-      reached_next t q here e start h =
+      pub reached_next : (c : Choice) → c.task.0 < length s.left → Some c ≡ chosen n (candidates p readies s)
+          → Reached from (placed s c)
+      reached_next c here e start h =
           let r = reached start h in
-          let c = chose n (candidates p readies s) t q e in
-          let any = chosen-any n (candidates p readies s) e in (
-            t.0 ∷ r.0,
-            subst (λ (w : ℕ). Holds n (t.0 ∷ r.0) (w ∷ responses p r.0) (placed s (lowest_free s.free) t q))
-                (c.1 ∙ own r.0 r.1 more t any.1)
-                (holds_next r.1 more t here q),
-            sym (fills r.0 r.1 more (some t.0) c.0) ∙ r.2,
+          let best = chose n (candidates p readies s) c e in
+          let any = chosen_any n (candidates p readies s) e in (
+            c.task.0 ∷ r.0,
+            subst (λ (w : ℕ). Holds n (c.task.0 ∷ r.0) (w ∷ responses p r.0) (placed s c))
+                (best.1 ∙ own r.0 r.1 more c.task.0 any.1)
+                (holds_next r.1 more c here),
+            sym (fills r.0 r.1 more (Some c.task.0) best.0) ∙ r.2,
           )
 
 -- with fewer rules active it may have filled the same levels
@@ -251,3 +236,14 @@ pub searched_fewer : (p : Problem) (less more : ℕ → Bool) → Subset (length
     → Searched p more s → Searched p less s
 searched_fewer p less more fewer s held =
     record { low = held.low; times = held.times; filled = filled_fewer p less more fewer held.low held.filled; holds = held.holds }
+
+-- ---- from the start
+
+module _ (p : Problem) (active : ℕ → Bool) (s : Search) (holds : Holds p.tasks [] [] s) where
+  pub searched_none : Searched p active s
+  searched_none = record { low = []; times = []; filled = empty; holds = holds }
+
+  pub assigns_none : (r : Search) → Assigns p active s r → HoldsLevels p (assign p active) r
+  assigns_none r assigns =
+      let all : p.tasks - 0 ≡ p.tasks = omega arith in
+      subst (λ (k : ℕ). HoldsLevels p (fill p active k []) r) all (assigns [] holds)

@@ -1,5 +1,6 @@
 -- What spares a search responses, over any test: a task that passed with more tasks above it, here or in another search, passes.
 -- Assumes nothing.
+use Rattle.std.specs.Prelude.{Option, Some, None, is_some}
 use Rattle.std.specs.Prelude.{◌≡◌, Bool, ◌&&◌, List, map, ℕ, ◌+◌, ◌-◌, ◌≤◌, ◌<◌, eqb, length, get_or, set, replicate}
 use Rattle.std.proofs.Common.{sym, ap, ◌∙◌, eq-or-lt_of_le, arith, eqb→eq}
 use Rattle.std.proofs.Math.Path.{subst}
@@ -12,14 +13,12 @@ use Rattle.sets.specs.Bounded.{without, without_still, without_other}
 use Rattle.sets.specs.Marks.{marked, marked-none, marked_store, marked-without}
 use Rattle.sets.specs.Pad.{map_at}
 use Rattle.taskset.specs.declared.TaskIndex.{TaskIndex}
-use Rattle.response.specs.declared.Response.TheVariants.{Late}
-use Rattle.assignment.specs.declared.Choice.TheVariants.{Takes}
 use Rattle.assignment.specs.declared.Search.{Search}
 use Rattle.assignment.specs.declared.Hints.{Hints}
 use Rattle.assignment.specs.Orders.{no_rule}
-use Rattle.assignment.specs.Audsley.{is_within, Problem, without_rules, passes, unassigned, Filled, empty, level}
+use Rattle.assignment.specs.Audsley.{Problem, without_rules, passes, unassigned, Filled, empty, level}
 use Rattle.assignment.specs.Decision.{Lawful, may_bare, filled_count, filled_passes, filled_only}
-use Rattle.assignment.specs.Search.{index, candidate, AnyOf, lowest, Searched, Known, Helps}
+use Rattle.assignment.specs.Search.{index, candidate, within, lowest, Searched, Known, Helps}
 use Rattle.assignment.specs.Filling.{lowest_at}
 
 -- ---- who is known to pass
@@ -41,26 +40,27 @@ module _ (p : Problem) where
       go false s at = all j g s
 
   -- fewer left above can't break it
-  pub helps_next : Lawful p → (left : List Bool) (i : ℕ) → i < length left → {h : Hints} → Helps p (marked left) h
+  pub helps_next : Lawful p → (left : List Bool) (i : ℕ) → i < length left → (h : Option Hints) → Helps p (marked left) h
       → Helps p (marked (set left i false)) h
   unfolding Known
-  helps_next lawful left i h helps =
+  helps_next lawful left i h None helps = tt
+  helps_next lawful left i h (Some hints) right =
       let all = marked left in
       record {
-        known = λ given. rw (marked-without left i h)
+        known = rw (marked-without left i h)
             (λ j g t. lawful.fewer j (without (without all i) j) (without all j)
             (λ q b s. let w = without_still (without all i) j q s in without_other all j q w.1 (without_still all i q w.0).0)
-            (helps.known given j g t));
-        other = helps.other;
+            (right.known j g t));
+        other = right.other;
       }
 
   -- a ready task that is known to pass may take the level
   pub known_any : (ready left known : ℕ → Bool) → Known p left known → (i : ℕ) → i < p.tasks → (ready i && known i) ≡ true
-      → AnyOf p.tasks (candidate p.test ready left) (Takes (index i) 0)
+      → T (within (candidate p.test ready left) i)
   unfolding Known
-  known_any ready left known k i h e = (h, go (ready i) (true→T (ready i && known i) e))
+  known_any ready left known k i h e = go (ready i) (true→T (ready i && known i) e)
     where
-      go : (b : Bool) → T (b && known i) → T (is_within (pick b (p.test i (without left i)) Late))
+      go : (b : Bool) → T (b && known i) → T (is_some (pick b (p.test i (without left i)) None))
       go true t = k i h t
       go false t = absurd t
 
@@ -76,18 +76,13 @@ searched_bare p active s held =
     record { low = held.low; times = held.times; filled = filled_bare p active held.low held.filled; holds = held.holds }
 
 -- of the n levels of an order, none from `deep` down is that of a task left
-unfoldable pub NoneFrom : ℕ → List TaskIndex → (ℕ → Bool) → ℕ → Type 0
+abbrev pub NoneFrom : ℕ → List TaskIndex → (ℕ → Bool) → ℕ → Type 0
 NoneFrom n order left deep = (k : ℕ) → k < n → deep ≤ k → T (left (get_or order k (index 0)).0) → ⊥
 
 module _ (n : ℕ) (order : List TaskIndex) (left : ℕ → Bool) where
-  pub none_start : NoneFrom n order left n
-  unfolding NoneFrom
-  none_start k h g = absurd (omega arith)
-
-  pub none-next : (deep : ℕ) → NoneFrom n order left deep → left (get_or order (deep - 1) (index 0)).0 ≡ false
+  pub none_next : (deep : ℕ) → NoneFrom n order left deep → left (get_or order (deep - 1) (index 0)).0 ≡ false
       → NoneFrom n order left (deep - 1)
-  unfolding NoneFrom
-  none-next deep none e k h g =
+  none_next deep none e k h g =
       ⊎_elim
       (λ here. false→refuted (left (get_or order k (index 0)).0) (subst (λ (q : ℕ). left (get_or order q (index 0)).0 ≡ false) here e))
       (λ l. none k h (omega arith)) (eq-or-lt_of_le g)
@@ -129,13 +124,10 @@ module _ (p : Problem) (lawful : Lawful p) (active : ℕ → Bool) (s : Search) 
 
     -- it passed there with all the others that are left above it, so where it is ready it may take the level
     pub last_any : (ready left : ℕ → Bool) → NoneFrom n s.order left deep → ready (task_at_level (deep - 1)) ≡ true
-        → AnyOf n (candidate p.test ready left) (Takes (get_or s.order (deep - 1) (index 0)) 0)
-    unfolding NoneFrom
-    last_any ready left none e = (
-      last_task,
-      rw e
-          (subst (λ (i : ℕ). T (passes p i (without left i))) same
-          (filled_passes p active lawful low held.filled q filled left
-          (λ j g b t. none (s.free + j) (omega (arith, b, held.holds.free, few)) (omega arith)
-          (subst (λ (i : ℕ). T (left i)) (sym (at_level j b)) t)))),
-    )
+        → T (within (candidate p.test ready left) (task_at_level (deep - 1)))
+    last_any ready left none e =
+        rw e
+        (subst (λ (i : ℕ). T (passes p i (without left i))) same
+        (filled_passes p active lawful low held.filled q filled left
+        (λ j g b t. none (s.free + j) (omega (arith, b, held.holds.free, few)) (omega arith)
+        (subst (λ (i : ℕ). T (left i)) (sym (at_level j b)) t))))

@@ -1,21 +1,19 @@
 -- Laws of the ready tasks, rule by rule, and of the greatest candidate: what one turn of a loop does. Assumes nothing.
-use Rattle.std.specs.Prelude.{◌≡◌, refl, Bool, true, false, ◌&&◌, not, List, ℕ, suc, ◌+◌, ◌<◌, T, eqb, length, set}
-use Rattle.std.proofs.Common.{sym, subst, ◌∙◌, eqb-true}
+use Rattle.std.specs.Prelude.{Option, Some, None, is_some, option_map}
+use Rattle.std.specs.Prelude.{◌≡◌, refl, Bool, true, false, ◌&&◌, not, List, ℕ, suc, ◌+◌, ◌-◌, ◌<◌, T, eqb, length, set}
+use Rattle.std.proofs.Common.{sym, subst, ◌∙◌, arith, eqb-true}
 use Rattle.std.proofs.Math.Path.{ap, fun_ext}
-use Rattle.sets.specs.Choice.{pick, option, and_left, and-true}
+use Rattle.sets.specs.Choice.{pick, and_left, and-true}
 use Rattle.sets.specs.Bounded.{without, all, all-next, greatest, greatest_at, greatest_under}
 use Rattle.sets.specs.Marks.{marked, marked_store}
 use Rattle.taskset.specs.declared.Rule.{Rule}
 use Rattle.taskset.specs.declared.Task.{Task}
 use Rattle.taskset.specs.Model.{task_at, rule_at, SoundTasks}
-use Rattle.response.specs.declared.Response.{Response}
-use Rattle.response.specs.declared.Response.TheVariants.{Within, Late}
-use Rattle.response.specs.Equation.{demand, response_time}
+use Rattle.response.specs.Equation.{demand}
 use Rattle.response.specs.Timing.{timing_of, up_to_deadline}
 use Rattle.response.specs.TimingLaws.{timing_stops}
-use Rattle.assignment.specs.declared.Choice.TheVariants.{Takes, Nobody}
-use Rattle.assignment.specs.Audsley.{Test, is_within, blocks, ready, response_at}
-use Rattle.assignment.specs.Search.{index, time, candidate, chosen}
+use Rattle.assignment.specs.Audsley.{Test, blocks, ready, response_at}
+use Rattle.assignment.specs.Search.{index, time, candidate, within, choice_of, chosen}
 
 -- ---- ready tasks
 
@@ -46,18 +44,18 @@ unnamed f rest true = refl
 unnamed f rest false = refl
 
 -- one rule more: its higher task stays only where the rule is not active or its lower task has a level
-pub ready_turn : (now : List Bool) (k : ℕ) (rules : List Rule) (active left : ℕ → Bool) (r : Rule) → r ≡ rule_at rules k
-    → r.higher.0 < length now → marked now ≡ ready_by k rules active left
-    → marked (set now r.higher.0 (marked now r.higher.0 && not (active k && left r.lower.0))) ≡ ready_by (k + 1) rules active left
+pub ready_turn : (now : List Bool) (k : ℕ) (rules : List Rule) (active left : ℕ → Bool) (r : Rule) (on : Bool) → r ≡ rule_at rules k
+    → on ≡ active k → r.higher.0 < length now → marked now ≡ ready_by k rules active left
+    → marked (set now r.higher.0 (marked now r.higher.0 && not (on && left r.lower.0))) ≡ ready_by (k + 1) rules active left
 unfolding ready_by
-ready_turn now k rules active left r at h e =
+ready_turn now k rules active left r on at is h e =
     fun_ext (λ i.
     marked_store now r.higher.0 (marked now r.higher.0 && not x) h i
     ∙ go i (eqb r.higher.0 i) refl
     ∙ ap (λ (b : Bool). left i && b) (whole i))
   where
     x : Bool
-    x = active k && left r.lower.0
+    x = on && left r.lower.0
 
     rest : ℕ → Bool
     rest i = all k (λ q. not (blocks rules active left i q))
@@ -75,7 +73,8 @@ ready_turn now k rules active left r at h e =
 
     whole : (i : ℕ) → (not (x && eqb r.higher.0 i) && rest i) ≡ all (k + 1) (λ q. not (blocks rules active left i q))
     whole i =
-        ap (λ (q : Rule). not (active k && left q.lower.0 && eqb q.higher.0 i) && rest i) at
+        ap (λ (b : Bool). not (b && left r.lower.0 && eqb r.higher.0 i) && rest i) is
+        ∙ ap (λ (q : Rule). not (active k && left q.lower.0 && eqb q.higher.0 i) && rest i) at
         ∙ sym (all-next k (λ q. not (blocks rules active left i q)))
 
 pub ready_end : (m : ℕ) (rules : List Rule) (active left : ℕ → Bool) → m ≡ length rules
@@ -92,48 +91,42 @@ level_stops tasks sound i h above =
     let own = task_at tasks i in
     timing_stops (demand tasks i above) own.jitter own.deadline own.period (sound.each i h).deadline.1
 
-pub level_response_is : (tasks : List Task) → SoundTasks tasks → (i : ℕ) → i < length tasks → (left above : ℕ → Bool) → above ≡ without left i
-    → (own : Task) → own ≡ task_at tasks i → (a : Response) → a ≡ response_time tasks i above own.deadline
-    → (a ≡ response_at tasks i (without left i)) × (a ≡ up_to_deadline (timing_of tasks i (without left i)))
-level_response_is tasks sound i h left above others own at a e =
-    let is : a ≡ response_at tasks i (without left i) = e ∙ rw (at, others) in
-    (is, is ∙ level_stops tasks sound i h (without left i))
-
 module _ (test : Test) (ready left : ℕ → Bool) (i : ℕ) where
-  -- where it is ready, and where it isn't
-  pub candidate-ready : ready i ≡ true → {a : Response} → a ≡ test i (without left i) → candidate test ready left i ≡ a
-  candidate-ready on e = rw on (sym e)
-
-  pub candidate_late : ready i ≡ false → candidate test ready left i ≡ Late
+  -- it is late where it isn't ready
+  pub candidate_late : ready i ≡ false → candidate test ready left i ≡ None
   candidate_late off = rw off
 
-  -- within its deadline only where it is ready
-  pub candidate-within : T (is_within (candidate test ready left i)) → T (ready i)
-  candidate-within = go (ready i)
+  -- and within its deadline only where it is
+  pub candidate_ready : T (is_some (candidate test ready left i)) → T (ready i)
+  candidate_ready = go (ready i)
     where
-      go : (b : Bool) → T (is_within (pick b (test i (without left i)) Late)) → T b
+      go : (b : Bool) → T (is_some (pick b (test i (without left i)) None)) → T b
       go true t = tt
       go false t = t
 
 -- ---- the greatest candidate
 
-module _ (n : ℕ) (candidates : ℕ → Response) where
-  abbrev pub within : ℕ → Bool
-  within i = is_within (candidates i)
+-- of n candidates, when from k on all are late
+module _ (n : ℕ) (candidates : ℕ → Option ℕ) where
+  module _ (k : ℕ) (more : 0 < k) (e : greatest k (within candidates) ≡ greatest n (within candidates)) where
+    down : suc (k - 1) ≡ k
+    down = omega arith
 
-  -- the next one down is within its deadline, or late
-  module _ (i k : ℕ) (next : suc i ≡ k) (e : greatest k within ≡ greatest n within) where
-    pub chosen_takes : (r : ℕ) → candidates i ≡ Within r → Takes (index i) r ≡ chosen n candidates
+    -- the next one down is within its deadline, or late
+    pub chosen_takes : (r : ℕ) → candidates (k - 1) ≡ Some r → Some (record { task = index (k - 1); response = r }) ≡ chosen n candidates
     unfolding chosen
     chosen_takes r f =
-        ap (λ (a : Response). Takes (index i) (time a)) (sym f)
-        ∙ ap (option Nobody (λ j. Takes (index j) (time (candidates j))))
-        (sym (greatest_at i within (ap is_within f)) ∙ ap (λ (m : ℕ). greatest m within) next ∙ e)
+        ap (λ (a : Option ℕ). Some (record { task = index (k - 1); response = time a })) (sym f)
+        ∙ ap (option_map (choice_of candidates))
+        (sym (greatest_at (k - 1) (within candidates) (ap is_some f)) ∙ ap (λ (m : ℕ). greatest m (within candidates)) down ∙ e)
 
-    pub chosen-next : candidates i ≡ Late → greatest i within ≡ greatest n within
-    chosen-next f = sym (greatest_under i within (ap is_within f)) ∙ ap (λ (m : ℕ). greatest m within) next ∙ e
+    pub greatest_late : candidates (k - 1) ≡ None → greatest (k - 1) (within candidates) ≡ greatest n (within candidates)
+    greatest_late f =
+        sym (greatest_under (k - 1) (within candidates) (ap is_some f)) ∙ ap (λ (m : ℕ). greatest m (within candidates)) down ∙ e
 
-  pub chosen_none : (i : ℕ) → i ≡ 0 → greatest i within ≡ greatest n within → Nobody ≡ chosen n candidates
+  pub chosen_none : (k : ℕ) → k ≡ 0 → greatest k (within candidates) ≡ greatest n (within candidates) → None ≡ chosen n candidates
   unfolding chosen greatest
-  chosen_none i z e =
-      ap (option Nobody (λ j. Takes (index j) (time (candidates j)))) (ap (λ (m : ℕ). greatest m within) (sym z) ∙ e)
+  chosen_none k z e = ap (option_map (choice_of candidates)) (ap (λ (m : ℕ). greatest m (within candidates)) (sym z) ∙ e)
+
+-- for a loop over them from the last down
+pub ruleset choosing_steps = (candidate_late, chosen_takes, greatest_late, chosen_none)

@@ -1,7 +1,8 @@
 -- What the arrays of a search hold: document 01's 64 places with the 64 responses beside them, highest level first, and the
 -- tasks that have no level. Over any test. Assumes nothing.
-use Rattle.std.specs.Prelude.{◌≡◌, Bool, true, false, List, [], ◌∷◌, ◌++◌, map, ◌⊎◌, ℕ, ◌-◌, ◌≤◌, ◌<◌, T, length, set, replicate}
-use Rattle.sets.specs.Choice.{pick, option}
+use Rattle.std.specs.Prelude.{Option, None, is_some, unwrap_or, option_map, MatchOption, IfSome}
+use Rattle.std.specs.Prelude.{◌≡◌, Bool, false, List, [], ◌∷◌, ◌++◌, map, ◌⊎◌, ℕ, ◌-◌, ◌≤◌, ◌<◌, T, length, set, replicate}
+use Rattle.sets.specs.Choice.{pick}
 use Rattle.sets.specs.Bounded.{without, greatest}
 use Rattle.sets.specs.Marks.{marked}
 use Rattle.taskset.specs.declared.TaskIndex.{TaskIndex}
@@ -9,14 +10,11 @@ use Rattle.taskset.specs.declared.PriorityLevel.{PriorityLevel}
 use Rattle.taskset.specs.declared.Rule.{Rule}
 use Rattle.taskset.specs.Refusals.{max_tasks, max_rules, Between}
 use Rattle.taskset.specs.Model.{rule_at}
-use Rattle.response.specs.declared.Response.{Response}
-use Rattle.response.specs.declared.Response.TheVariants.{Within, Late}
 use Rattle.assignment.specs.declared.Choice.{Choice}
-use Rattle.assignment.specs.declared.Choice.TheVariants.{Takes, Nobody}
 use Rattle.assignment.specs.declared.Search.{Search}
 use Rattle.assignment.specs.declared.Hints.{Hints}
 use Rattle.assignment.specs.Orders.{no_rule}
-use Rattle.assignment.specs.Audsley.{Test, is_within, Problem, passes, unassigned, Filled, Stuck, fill}
+use Rattle.assignment.specs.Audsley.{Test, Problem, passes, unassigned, Filled, Stuck, fill}
 
 -- few enough rules, between indices that an array of marks has
 pub record Indexed (rules : List Rule) : Type 0 where
@@ -29,22 +27,29 @@ abbrev pub index : ℕ → TaskIndex
 index i = record { 0 = i }
 
 -- the time of a response that was found
-abbrev pub time : Response → ℕ
-time (Within r) = r
-time Late = 0
+abbrev pub time : Option ℕ → ℕ
+time r = unwrap_or r 0
 
 -- a ready task's response with the others that are left above it; late where it isn't ready
-abbrev pub candidate : Test → (ℕ → Bool) → (ℕ → Bool) → ℕ → Response
-candidate test ready left i = pick (ready i) (test i (without left i)) Late
+abbrev pub candidate : Test → (ℕ → Bool) → (ℕ → Bool) → ℕ → Option ℕ
+candidate test ready left i = pick (ready i) (test i (without left i)) None
 
--- of n candidates within the deadline, the one of the greatest index takes the level
-unfoldable pub chosen : ℕ → (ℕ → Response) → Choice
-chosen n candidates = option Nobody (λ i. Takes (index i) (time (candidates i))) (greatest n (λ i. is_within (candidates i)))
+-- a candidate is within its deadline
+abbrev pub within : (ℕ → Option ℕ) → ℕ → Bool
+within candidates i = is_some (candidates i)
+
+-- and takes the level with its response
+abbrev pub choice_of : (ℕ → Option ℕ) → ℕ → Choice
+choice_of candidates i = record { task = index i; response = time (candidates i) }
+
+-- of n candidates within the deadline, the one of the greatest index does
+unfoldable pub chosen : ℕ → (ℕ → Option ℕ) → Option Choice
+chosen n candidates = option_map (choice_of candidates) (greatest n (within candidates))
 
 -- any of them does, and nobody only where there is none
-abbrev pub AnyOf : ℕ → (ℕ → Response) → Choice → Type 0
-AnyOf n candidates (Takes t r) = (t.0 < n) × T (is_within (candidates t.0))
-AnyOf n candidates Nobody = (i : ℕ) → i < n → T (is_within (candidates i)) → ⊥
+abbrev pub AnyOf : ℕ → (ℕ → Option ℕ) → Option Choice → Type 0
+AnyOf n candidates r =
+    MatchOption r ((i : ℕ) → i < n → T (within candidates i) → ⊥) (λ c. (c.task.0 < n) × T (within candidates c.task.0))
 
 -- ---- what the arrays hold
 
@@ -61,21 +66,22 @@ pub record Holds (n : ℕ) (low times : List ℕ) (s : Search) : Type 0 where
   pub left : marked s.left ≡ unassigned n low
 
 -- the candidates for its next level, of those that are ready
-abbrev pub candidates : Problem → (ℕ → Bool) → Search → ℕ → Response
+abbrev pub candidates : Problem → (ℕ → Bool) → Search → ℕ → Option ℕ
 candidates p ready s = candidate p.test ready (marked s.left)
 
 -- the lowest of the levels that are not filled yet
 abbrev pub lowest_free : ℕ → PriorityLevel
 lowest_free free = record { 0 = free - 1 }
 
--- the search after task t took it with response r
-abbrev pub placed : Search → PriorityLevel → TaskIndex → ℕ → Search
-placed s level t r =
+-- the search after a task took it
+abbrev pub placed : Search → Choice → Search
+placed s c =
+    let level = lowest_free s.free in
     record {
-      order = set s.order level.0 t;
-      responses = set s.responses level.0 r;
+      order = set s.order level.0 c.task;
+      responses = set s.responses level.0 c.response;
       free = level.0;
-      left = set s.left t.0 false;
+      left = set s.left c.task.0 false;
     }
 
 -- a search that may have filled its levels so, with these rules active
@@ -111,7 +117,16 @@ Assigns p active from r = (low : List ℕ) → HoldsLevels p low from → HoldsL
 unfoldable pub Known : Problem → (ℕ → Bool) → (ℕ → Bool) → Type 0
 Known p left known = (i : ℕ) → i < p.tasks → T (known i) → T (passes p i (without left i))
 
--- hints that are given are right: known tasks, and another search, with any rules or none
-pub record Helps (p : Problem) (left : ℕ → Bool) (h : Hints) : Type 0 where
-  pub known : h.given ≡ true → Known p left (marked h.known)
-  pub other : h.given ≡ true → Searched p no_rule h.other
+-- hints are right: known tasks, and another search, with any rules or none
+pub record Right (p : Problem) (left : ℕ → Bool) (h : Hints) : Type 0 where
+  pub known : Known p left (marked h.known.now)
+  pub other : Searched p no_rule h.other.now
+
+-- where any are given
+abbrev pub Helps : Problem → (ℕ → Bool) → Option Hints → Type 0
+Helps p left h = IfSome h (Right p left)
+
+-- who takes a level then: any of the candidates with hints, the greatest without
+pub record Chose (n : ℕ) (candidates : ℕ → Option ℕ) (h : Option Hints) (r : Option Choice) : Type 0 where
+  pub any : AnyOf n candidates r
+  pub greatest : h ≡ None → r ≡ chosen n candidates

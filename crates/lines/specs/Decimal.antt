@@ -1,9 +1,8 @@
 -- Document 01, "Text and listing": a number is 1 to 7 decimal digits with no leading zero, save 0 itself; and how a number is
 -- written, in decimal without leading zeros. Assumes nothing.
-use Rattle.std.specs.Prelude.{Bool, true, not, ◌&&◌, ◌||◌, List, [], ◌∷◌, ◌++◌, ℕ, zero, suc, ◌+◌, ◌-◌, ◌*◌, ◌/◌, ◌%◌, leb, ltb, eqb, length, get_or}
+use Rattle.std.specs.Prelude.{Option, Some, None, Bool, true, not, ◌&&◌, ◌||◌, List, [], ◌∷◌, ◌++◌, ℕ, zero, suc, ◌+◌, ◌-◌, ◌*◌, ◌/◌, ◌%◌, leb, ltb, eqb, length, get_or}
 use Rattle.sets.specs.Choice.{pick}
-use Rattle.lines.specs.declared.Number.{Number}
-use Rattle.lines.specs.declared.Number.TheVariants.{Value, Malformed}
+use Rattle.lines.specs.declared.Field.{Field}
 
 -- what parts the fields of a line, and what ends it
 abbrev pub tab : ℕ
@@ -21,6 +20,10 @@ max_digits = 7
 abbrev pub is_digit : ℕ → Bool
 is_digit b = leb 48 b && leb b 57
 
+-- the value of one
+abbrev pub digit_of : ℕ → Option ℕ
+digit_of b = pick (is_digit b) (Some (b - 48)) None
+
 unfoldable pub are_digits : List ℕ → Bool
 are_digits [] = true
 are_digits (b ∷ bs) = is_digit b && are_digits bs
@@ -37,9 +40,9 @@ unfoldable pub is_number : List ℕ → Bool
 is_number bs =
     leb 1 (length bs) && leb (length bs) max_digits && are_digits bs && (eqb (length bs) 1 || not (eqb (get_or bs 0 0) 48))
 
--- the number of a field that starts at a position, and where the field ends
-abbrev pub number_from : ℕ → List ℕ → Number
-number_from at bs = pick (is_number bs) (Value (value bs) (at + length bs)) Malformed
+-- the number of a field that starts at a position, and where the field ends; none where its bytes are no number
+abbrev pub number_from : ℕ → List ℕ → Option Field
+number_from at bs = pick (is_number bs) (Some (record { value = value bs; end = at + length bs })) None
 
 -- ---- written
 

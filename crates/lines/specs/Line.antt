@@ -1,8 +1,7 @@
 -- Lines as they are written: a head, which is a word and its tab or nothing, then numbers in decimal, with a tab between each
 -- two and a line feed at the end. Assumes nothing.
 use mathlib.Core.List.{List, [], ◌∷◌, ◌++◌, map, flat_map}
-use Rattle.std.specs.Prelude.{ℕ, take}
-use Rattle.sets.specs.Entries.{Codec, entries_in}
+use Rattle.std.specs.Prelude.{ℕ}
 use Rattle.lines.specs.Decimal.{tab, feed, decimal}
 use Rattle.lines.specs.Parts.{join}
 
@@ -12,17 +11,6 @@ line head numbers = head ++ join tab (map decimal numbers) ++ feed ∷ []
 -- a line for each row of numbers
 unfoldable pub lines_of : List ℕ → List (List ℕ) → List ℕ
 lines_of head rows = flat_map (line head) rows
-
--- numbers as rows of so many each; a rest that fills no row is left out
-abbrev pub row_codec : ℕ → Codec (List ℕ)
-row_codec width = record { size = width; read = take width; words = λ row. row }
-
-unfoldable pub chunks : ℕ → List ℕ → List (List ℕ)
-chunks width = entries_in (row_codec width)
-
--- and the numbers of rows, one after the other
-abbrev pub numbers_of : List (List ℕ) → List ℕ
-numbers_of = flat_map (λ row. row)
 
 -- the longest head and the most numbers that a size is asked of
 abbrev pub max_head : ℕ

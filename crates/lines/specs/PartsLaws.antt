@@ -1,12 +1,12 @@
 -- Laws of bytes parted by a byte: what a search for the mark says of the first part, how the parts are got one by one, and
 -- that they and the bytes determine each other. Each goes by induction on the bytes. Assumes nothing.
-use Rattle.std.specs.Prelude.{◌≡◌, refl, Bool, true, false, ℕ, suc, ◌+◌, ◌-◌, ◌≤◌, ◌<◌, eqb, length, get_or, take, drop}
-use Rattle.std.proofs.Math.Path.{sym}
-use Rattle.std.proofs.Common.{ap, ◌∙◌, add-one, arith, length-drop, drop_of_length-le, take-suc, drop-cons, get_or-drop, drop-drop}
-use mathlib.Core.List.{List, [], ◌∷◌, ◌++◌, append-nil}
-use Rattle.std.proofs.Math.Nat.{sub_self}
-use Rattle.std.proofs.Math.Seq.{append_snoc}
-use borrow.Author.Tests.{eq-eqb, ne_eqb, eqb-true}
+use Rattle.std.specs.Prelude.{◌≡◌, refl, Option, Some, None, unwrap_or, Bool, true, false, not, cond, ℕ, ◌+◌, ◌-◌, ◌≤◌, ◌<◌, eqb, ltb, length, take, drop}
+use Rattle.std.specs.List.{before_first, position, position_or_len}
+use Rattle.std.proofs.lemmas.Bool.Decides.{nat_tests}
+use Rattle.std.proofs.lemmas.List.Sums.{prefix_len-le-length}
+use Rattle.std.proofs.Common.{ap, ◌∙◌, add-one, one-add, arith, length-drop, drop_of_length-le, drop-cons, drop-drop}
+use mathlib.Core.List.{List, [], ◌∷◌, ◌++◌}
+use borrow.Author.Tests.{eq-eqb, eqb-true}
 use Rattle.sets.specs.Choice.{pick}
 use Rattle.lines.specs.Parts.{cons_first, parts, up_to, join}
 
@@ -20,60 +20,35 @@ pub parts_on : (m b : ℕ) (bs : List ℕ) → eqb b m ≡ false → parts m (b 
 unfolding parts
 parts_on m b bs e = rw e
 
--- ---- a search for the mark from `at`, which has come to `end`
+pub up_to-here : (m b : ℕ) (bs : List ℕ) → eqb b m ≡ true → up_to m (b ∷ bs) ≡ []
+unfolding up_to
+up_to-here m b bs e = rw e
 
--- no byte between is the mark: what stands before the first mark is these, and what stands before it in the rest
-pub record Unmarked (m : ℕ) (bs : List ℕ) (at end : ℕ) : Type 0 where
-  pub past : at ≤ end
-  pub within : end ≤ length bs
-  pub same : up_to m (drop at bs) ≡ take (end - at) (drop at bs) ++ up_to m (drop end bs)
+pub up_to_on : (m b : ℕ) (bs : List ℕ) → eqb b m ≡ false → up_to m (b ∷ bs) ≡ b ∷ up_to m bs
+unfolding up_to
+up_to_on m b bs e = rw e
 
-pub unmarked_none : (m : ℕ) (bs : List ℕ) (at : ℕ) → at ≤ length bs → Unmarked m bs at at
-unmarked_none m bs at h = record { past = omega arith; within = h; same = rw (sub_self at) }
-
--- nothing is left to search
-pub up_to_end : (m : ℕ) (bs : List ℕ) (at : ℕ) → length bs ≤ at → [] ≡ up_to m (drop at bs)
+pub up_to_end : (m : ℕ) (bs : List ℕ) (at : ℕ) → length bs ≤ at → up_to m (drop at bs) ≡ []
 unfolding up_to
 up_to_end m bs at h = rw (drop_of_length-le bs h)
 
-module _ {m : ℕ} {bs : List ℕ} {at end : ℕ} (p : Unmarked m bs at end) where
-  abbrev gone : List ℕ
-  gone = take (end - at) (drop at bs)
+-- what a search for the mark finds
+before_mark : (m : ℕ) (bs : List ℕ) → before_first (λ b. eqb b m) bs ≡ up_to m bs
+unfolding up_to
+before_mark m [] = refl
+before_mark m (b ∷ bs) = go (eqb b m) (before_mark m bs)
+  where
+    go : (t : Bool) → before_first (λ c. eqb c m) bs ≡ up_to m bs
+        → take (cond (not t) (1 + position_or_len (λ c. eqb c m) bs) 0) (b ∷ bs) ≡ pick t [] (b ∷ up_to m bs)
+    go true e = refl
+    go false e = rw one-add (ap (λ (cs : List ℕ). b ∷ cs) e)
 
-  -- one byte more
-  pub gone-more : end < length bs → take (end + 1 - at) (drop at bs) ≡ gone ++ get_or bs end 0 ∷ []
-  gone-more l =
-      let k = end - at in
-      let more : end + 1 - at ≡ suc k = omega arith in
-      let back : at + k ≡ end = omega arith in
-      rw (more, take-suc (drop at bs) k 0 (omega (arith, length-drop at bs)), get_or-drop at bs k 0, back)
-
-  -- it is not the mark: it belongs to what stands before the first mark
-  pub unmarked_next : end < length bs → (get_or bs end 0 ≡ m → ⊥)
-      → up_to m (drop at bs) ≡ gone ++ get_or bs end 0 ∷ up_to m (drop (suc end) bs)
-  unfolding up_to
-  unmarked_next l n = p.same ∙ rw (drop-cons bs end 0 l, ne_eqb (get_or bs end 0) m n)
-
-  pub unmarked_more : end < length bs → (get_or bs end 0 ≡ m → ⊥) → Unmarked m bs at (end + 1)
-  unmarked_more l n =
-      record {
-        past = omega arith;
-        within = omega arith;
-        same =
-            unmarked_next l n
-            ∙ rw (gone-more l, add-one end) (sym (append_snoc gone (get_or bs end 0) (up_to m (drop (suc end) bs))));
-      }
-
-  -- the mark stands at `end`
-  pub mark_found : end < length bs → get_or bs end 0 ≡ m → gone ≡ up_to m (drop at bs)
-  unfolding up_to
-  mark_found l e =
-      let none : up_to m (drop end bs) ≡ [] = rw (drop-cons bs end 0 l, eq-eqb (get_or bs end 0) m e) in
-      sym (p.same ∙ rw none (append-nil gone))
-
-  -- all is passed
-  pub no_mark : end ≡ length bs → take (length bs - at) (drop at bs) ≡ up_to m (drop at bs)
-  no_mark e = rw (← e) (sym (p.same ∙ rw (← up_to_end m bs end (omega arith)) (append-nil gone)))
+pub up_to_found : (m : ℕ) (bs : List ℕ) {r : Option ℕ} → r ≡ position (λ b. eqb b m) bs
+    → take (unwrap_or r (length bs)) bs ≡ up_to m bs
+up_to_found m bs e = rw (e, place _ _ (prefix_len-le-length (λ b. not (eqb b m)) bs)) (before_mark m bs)
+  where
+    place : (p n : ℕ) → p ≤ n → unwrap_or (cond (ltb p n) (Some p) None) n ≡ p
+    place p n h = grind (arith, nat_tests)
 
 -- ---- the parts one by one
 
@@ -106,6 +81,9 @@ pub parts-some : (m : ℕ) (bs : List ℕ) → 0 < length (parts m bs)
 parts-some m bs = rw (parts_split m bs) (omega arith)
 
 -- the same from a position on, where a stretch was found
+
+pub part_length : (m at : ℕ) (bs : List ℕ) → length (up_to m (drop at bs)) ≤ length bs - at
+part_length m at bs = omega (arith, up_to_short m (drop at bs), length-drop at bs)
 
 pub part-within : (m : ℕ) (bs : List ℕ) (at : ℕ) (part : List ℕ) → at ≤ length bs → part ≡ up_to m (drop at bs)
     → at + length part ≤ length bs

@@ -1,6 +1,6 @@
 -- A listing is never long: an order's at most 9 + 64 × 14 bytes, a core's at most 9 + 128 × 10, and that of an empty core at most
 -- 9 + 64 × 16. Assumes nothing.
-use Rattle.std.specs.Prelude.{◌≡◌, refl, Bool, true, false, ◌⊎◌, ℕ, zero, suc, ◌+◌, ◌*◌, ◌^◌, ◌≤◌, ◌<◌, length, get_or, take}
+use Rattle.std.specs.Prelude.{Result, Ok, ◌≡◌, refl, Bool, true, false, ◌⊎◌, ℕ, zero, suc, ◌+◌, ◌*◌, ◌^◌, ◌≤◌, ◌<◌, length, get_or, take}
 use Rattle.std.proofs.Common.{sym, ap, subst, ◌∙◌, inl, inr, ⊎_elim, mul-suc, add-one, arith, length-append, get_or-take}
 use mathlib.Core.List.{List, [], ◌∷◌, ◌++◌, flat_map, append-nil}
 use Rattle.std.proofs.Math.ListN.{get_or-map, get_or-eq_default}
@@ -12,6 +12,7 @@ use Rattle.lines.specs.Decimal.{tab}
 use Rattle.lines.specs.ReadBack.{decimal-width}
 use Rattle.lines.specs.Line.{line, lines_of}
 use Rattle.lines.specs.LineWriting.{field_long, tabbed, line_long}
+use Rattle.taskset.specs.declared.refusals.Refusal.{Refusal}
 use Rattle.taskset.specs.declared.TaskIndex.{TaskIndex}
 use Rattle.taskset.specs.declared.TaskSet.{TaskSet}
 use Rattle.taskset.specs.Model.{Lists, task_at, Sound}
@@ -21,17 +22,17 @@ use Rattle.response.specs.Equation.{demand}
 use Rattle.response.specs.TimingLaws.{reported-le}
 use Rattle.assignment.specs.Search.{index}
 use Rattle.assignment.specs.LateTasks.{unassignable}
-use Rattle.verdict.specs.declared.Answer.{Answer}
-use Rattle.verdict.specs.declared.Answer.TheVariants.{Order, Core}
+use Rattle.verdict.specs.declared.Finding.{Finding}
+use Rattle.verdict.specs.declared.Finding.TheVariants.{Order, Core}
 use Rattle.verdict.specs.declared.Verdict.{Verdict}
 use Rattle.verdict.specs.Verdict.{deciding, solving}
 use Rattle.verdict.specs.Correct.{order_given, Correct}
 use Rattle.verdict.specs.Solving.{solving_cases}
 use Rattle.verdict.specs.Explained.{deciding_correct}
 use Rattle.listing.specs.Listing.{level_line, rule_line, late_line, lines_below, lines_for, late_for, word, late_head, listing_with, listing}
-use Rattle.listing.specs.Listing.{Outcome, refused, shown, outcome, max_listing}
+use Rattle.listing.specs.Listing.{Outcome, outcome, max_listing}
 use Rattle.listing.specs.LateLines.{EmptyCore}
-use Rattle.listing.specs.NumbersLaws.{lines_few, lines_none}
+use Rattle.listing.specs.ListingLaws.{lines_few, lines_none, listing_size}
 use Rattle.listing.proofs.GivesLaws.{late_lines_lem, RefusedOrListed, refusal, verdict, decided_either}
 
 -- ---- lines
@@ -94,13 +95,11 @@ no_lines head = refl
 -- and the head line, with fewer than 10 ^ d lines
 listing_long : (d : ℕ) (head : List ℕ) (lines lates : List (List ℕ)) → 1 ≤ d → length lines < 10 ^ d
     → length (listing_with head lines lates) ≤ length head + d + 1 + length (lines_of [] lines) + length (lines_of late_head lates)
-unfolding listing_with flat_map
 listing_long d head lines lates some few =
     let n = length lines in
     omega (
       arith,
-      length-append (line head (n ∷ []) ++ lines_of [] lines) (lines_of late_head lates),
-      length-append (line head (n ∷ [])) (lines_of [] lines),
+      listing_size head lines lates,
       line_long head (n ∷ []) (omega arith),
       numbers_short (d ∷ []) (n ∷ []) (some, few, tt),
     )
@@ -115,7 +114,7 @@ module _ (l : Lists) (sound : Sound l) (v : Verdict) (ok : Correct l v) where
   order = order_given l v
 
   -- level k's task is one of them, and its response is within its deadline
-  level_short : v.answer ≡ Order → (k : ℕ) → k < n → length (line [] (level_line v.order v.responses k)) ≤ 14
+  level_short : v.answer ≡ Ok Order → (k : ℕ) → k < n → length (line [] (level_line v.order v.responses k)) ≤ 14
   level_short e k h =
       let few = sound.tasks.few in
       let i = get_or order k 0 in
@@ -150,70 +149,66 @@ module _ (l : Lists) (sound : Sound l) (v : Verdict) (ok : Correct l v) where
       (omega arith, omega arith, (omega arith, omega arith, tt))
 
   -- by the answer
-  abbrev Short : Answer → Type 0
+  abbrev Short : Result Finding Refusal → Type 0
   Short a = length (listing_with (word a) (lines_for l v a) (late_for l a)) ≤ max_listing
 
-  order_short : v.answer ≡ Order → Short Order
+  order_short : v.answer ≡ Ok Order → Short (Ok Order)
   order_short e =
       let few = sound.tasks.few in
-      let lines : length (lines_for l v Order) ≤ n = lines_few _ _ n in
+      let lines : length (lines_for l v (Ok Order)) ≤ n = lines_few _ _ n in
       omega (
         arith,
-        listing_long 2 (word Order) (lines_for l v Order) [] (omega arith) (omega arith),
+        listing_long 2 (word (Ok Order)) (lines_for l v (Ok Order)) [] (omega arith) (omega arith),
         lines_short 14 [] (λ k. true) (level_line v.order v.responses) n (level_short e),
         no_lines late_head,
       )
 
   -- late lines stand under no others
-  core_short : v.answer ≡ Core → Short Core
-  core_short e = go (lt_or_le (length (lines_for l v Core)) 1)
+  core_short : v.answer ≡ Ok Core → Short (Ok Core)
+  core_short e = go (lt_or_le (length (lines_for l v (Ok Core))) 1)
     where
-      rules : length (lines_of [] (lines_for l v Core)) ≤ 10 * length (lines_for l v Core)
+      rules : length (lines_of [] (lines_for l v (Ok Core))) ≤ 10 * length (lines_for l v (Ok Core))
       rules = lines_short 10 [] (marked v.core) (rule_line l.rules) (length l.rules) rule_short
 
-      go : (length (lines_for l v Core) < 1) ⊎ (1 ≤ length (lines_for l v Core)) → Short Core
+      go : (length (lines_for l v (Ok Core)) < 1) ⊎ (1 ≤ length (lines_for l v (Ok Core))) → Short (Ok Core)
       go (inl none) =
           let few = sound.tasks.few in
-          let lates : length (late_for l Core) ≤ n = lines_few _ _ n in
+          let lates : length (late_for l (Ok Core)) ≤ n = lines_few _ _ n in
           omega (
             arith,
             rules,
-            listing_long 3 (word Core) (lines_for l v Core) (late_for l Core) (omega arith) (omega arith),
+            listing_long 3 (word (Ok Core)) (lines_for l v (Ok Core)) (late_for l (Ok Core)) (omega arith) (omega arith),
             lines_short 16 late_head (unassignable l) (late_line l.tasks (unassignable l)) n late_short,
           )
       go (inr some) =
           let few = sound.few_rules in
-          let lines : length (lines_for l v Core) ≤ length l.rules = lines_few _ _ (length l.rules) in
+          let lines : length (lines_for l v (Ok Core)) ≤ length l.rules = lines_few _ _ (length l.rules) in
           let full : EmptyCore v → ⊥ = λ empty.
           omega (arith, some, ap length (lines_none (marked v.core) (rule_line l.rules) (length l.rules) (λ k h. empty.1 k))) in
-          let nobody : late_for l Core ≡ [] = ap (late_for l) (sym e) ∙ (late_lines_lem l v sound ok).unchanged full in
+          let nobody : late_for l (Ok Core) ≡ [] = ap (late_for l) (sym e) ∙ (late_lines_lem l v sound ok).unchanged full in
           rw nobody (omega (
             arith,
             rules,
-            listing_long 3 (word Core) (lines_for l v Core) [] (omega arith) (omega arith),
+            listing_long 3 (word (Ok Core)) (lines_for l v (Ok Core)) [] (omega arith) (omega arith),
             no_lines late_head,
           ))
 
   listing_few : length (listing l v) ≤ max_listing
   listing_few = ⊎_elim (λ e. subst Short (sym e) (order_short e)) (λ e. subst Short (sym e) (core_short e)) ok.one
 
--- what is refused is not shown
-not_shown : (o : Outcome) (k : ℕ) (bytes : List ℕ) → o ≡ refused k → o ≡ shown bytes → ⊥
-not_shown o k bytes e f = let z : ◌≡◌ {A = ℕ} 0 1 = cc in omega arith
-
 -- so on lists that adding has taken, and of a set
-pub deciding_short : (l : Lists) → Sound l → (bytes : List ℕ) → outcome l (deciding l) ≡ shown bytes → length bytes ≤ max_listing
+pub deciding_short : (l : Lists) → Sound l → (bytes : List ℕ) → outcome l (deciding l) ≡ Ok bytes → length bytes ≤ max_listing
 deciding_short l sound bytes = go (outcome l (deciding l)) (decided_either l sound)
   where
-    go : (o : Outcome) → RefusedOrListed l o → o ≡ shown bytes → length bytes ≤ max_listing
-    go o (refusal k some few) e = absurd (not_shown o k bytes refl e)
+    go : (o : Outcome) → RefusedOrListed l o → o ≡ Ok bytes → length bytes ≤ max_listing
+    go o (refusal k) e = cc
     go o (verdict some) e =
         let ok = deciding_correct l sound some in
         let same : bytes ≡ listing l (deciding l) = cc in
         rw same (listing_few l sound (deciding l) ok)
 
-pub listing_short : (s : TaskSet) → Sized s → (bytes : List ℕ) → outcome (lists s) (solving s).verdict ≡ shown bytes
+pub listing_short : (s : TaskSet) → Sized s → (bytes : List ℕ) → outcome (lists s) (solving s).verdict ≡ Ok bytes
     → length bytes ≤ max_listing
 listing_short s size bytes =
-    solving_cases s size (λ v. outcome (lists s) v ≡ shown bytes → length bytes ≤ max_listing) (λ e. absurd (not_shown _ 14 bytes refl e))
+    solving_cases s size (λ v. outcome (lists s) v ≡ Ok bytes → length bytes ≤ max_listing) (λ e. absurd (cc))
     (λ sound. deciding_short (lists s) sound bytes)

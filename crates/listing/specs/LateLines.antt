@@ -1,15 +1,15 @@
 -- What document 02 asks of a listing in (b), late, and by how much: which late lines stand in it. Assumes nothing.
-use Rattle.std.specs.Prelude.{◌≡◌, List, [], ℕ, ◌≤◌, T, length}
+use Rattle.std.specs.Prelude.{◌≡◌, List, [], Ok, ℕ, ◌≤◌, T, length}
 use Rattle.taskset.specs.Model.{Lists}
 use Rattle.assignment.specs.LateTasks.{LateTasks, unassignable, late_response}
 use Rattle.verdict.specs.declared.Verdict.{Verdict}
-use Rattle.verdict.specs.declared.Answer.TheVariants.{Core}
+use Rattle.verdict.specs.declared.Finding.TheVariants.{Core}
 use Rattle.verdict.specs.Correct.{core_given}
 use Rattle.listing.specs.Listing.{late_line, lines_below}
 
 -- a core of no rules
 abbrev pub EmptyCore : Verdict → Type 0
-EmptyCore v = (v.answer ≡ Core) × ((k : ℕ) → T (core_given v k) → ⊥)
+EmptyCore v = (v.answer ≡ Ok Core) × ((k : ℕ) → T (core_given v k) → ⊥)
 
 pub record LateLines (l : Lists) (v : Verdict) (lines : List (List ℕ)) : Type 0 where
   -- an empty-core listing gains a line, place and response, for each task left without a level, in rising place

@@ -1,5 +1,4 @@
 pub mod Listing
+pub mod ListingLaws
 pub mod LateLines
 pub mod Gives
-pub mod Numbers
-pub mod NumbersLaws

@@ -1,11 +1,13 @@
 -- Document 01, "Text and listing", with the late lines of document 02, (b): the listing of a verdict, and what listing a set leaves
 -- in a buffer. Assumes nothing.
-use Rattle.std.specs.Prelude.{Bool, true, List, [], ◌∷◌, ◌++◌, ℕ, zero, suc, leb, length, get_or}
+use Rattle.std.specs.Prelude.{Result, Ok, Err, Bool, true, List, [], ◌∷◌, ◌++◌, ℕ, zero, suc, leb, length, get_or}
 use Rattle.sets.specs.Choice.{pick}
 use Rattle.sets.specs.Marks.{marked}
 use Rattle.sets.specs.Onto.{onto}
 use Rattle.lines.specs.Decimal.{tab}
 use Rattle.lines.specs.Line.{line, lines_of}
+use Rattle.taskset.specs.declared.refusals.Refusal.{Refusal}
+use Rattle.taskset.specs.declared.refusals.Refusal.TheVariants.{ShortBuffer}
 use Rattle.taskset.specs.declared.Task.{Task}
 use Rattle.taskset.specs.declared.Rule.{Rule}
 use Rattle.taskset.specs.declared.TaskIndex.{TaskIndex}
@@ -13,10 +15,9 @@ use Rattle.taskset.specs.declared.TaskSet.{TaskSet}
 use Rattle.taskset.specs.Model.{Lists, rule_at}
 use Rattle.assignment.specs.Search.{index}
 use Rattle.assignment.specs.LateTasks.{unassignable, late_response}
-use Rattle.verdict.specs.declared.Answer.{Answer}
-use Rattle.verdict.specs.declared.Answer.TheVariants.{Refused, Order, Core}
+use Rattle.verdict.specs.declared.Finding.{Finding}
+use Rattle.verdict.specs.declared.Finding.TheVariants.{Order, Core}
 use Rattle.verdict.specs.declared.Verdict.{Verdict}
-use Rattle.listing.specs.declared.Shown.{Shown}
 use Rattle.listing.specs.declared.Listed.{Listed}
 
 -- ---- the numbers of a line after the head line
@@ -34,33 +35,37 @@ abbrev pub late_line : List Task → (ℕ → Bool) → ℕ → List ℕ
 late_line tasks left i = i ∷ late_response tasks left i ∷ []
 
 -- the lines of the indices below n that are in, rising
-unfoldable pub lines_below : (ℕ → Bool) → (ℕ → List ℕ) → ℕ → List (List ℕ)
+unfoldable pub lines_below : {A : Type 0} → (ℕ → Bool) → (ℕ → A) → ℕ → List A
 lines_below isIn nums zero = []
 lines_below isIn nums (suc n) = lines_below isIn nums n ++ pick (isIn n) (nums n ∷ []) []
 
+-- those of the first n levels of an order with its responses
+abbrev pub level_lines : List TaskIndex → List ℕ → ℕ → List (List ℕ)
+level_lines order responses n = lines_below (λ k. true) (level_line order responses) n
+
 -- every level from 0; every rule of the core
-abbrev pub lines_for : Lists → Verdict → Answer → List (List ℕ)
-lines_for l v (Refused k) = []
-lines_for l v Order = lines_below (λ k. true) (level_line v.order v.responses) (length l.tasks)
-lines_for l v Core = lines_below (marked v.core) (rule_line l.rules) (length l.rules)
+abbrev pub lines_for : Lists → Verdict → Result Finding Refusal → List (List ℕ)
+lines_for l v (Err k) = []
+lines_for l v (Ok Order) = level_lines v.order v.responses (length l.tasks)
+lines_for l v (Ok Core) = lines_below (marked v.core) (rule_line l.rules) (length l.rules)
 
 -- every task that is left
 abbrev pub late_lines : List Task → (ℕ → Bool) → List (List ℕ)
 late_lines tasks left = lines_below left (late_line tasks left) (length tasks)
 
 -- under a core; one with rules leaves nobody (`LateLines`)
-abbrev pub late_for : Lists → Answer → List (List ℕ)
-late_for l (Refused k) = []
-late_for l Order = []
-late_for l Core = late_lines l.tasks (unassignable l)
+abbrev pub late_for : Lists → Result Finding Refusal → List (List ℕ)
+late_for l (Err k) = []
+late_for l (Ok Order) = []
+late_for l (Ok Core) = late_lines l.tasks (unassignable l)
 
 -- ---- bytes
 
 -- `order` or `core`, and a tab
-abbrev pub word : Answer → List ℕ
-word (Refused k) = []
-word Order = 111 ∷ 114 ∷ 100 ∷ 101 ∷ 114 ∷ tab ∷ []
-word Core = 99 ∷ 111 ∷ 114 ∷ 101 ∷ tab ∷ []
+abbrev pub word : Result Finding Refusal → List ℕ
+word (Err k) = []
+word (Ok Order) = 111 ∷ 114 ∷ 100 ∷ 101 ∷ 114 ∷ tab ∷ []
+word (Ok Core) = 99 ∷ 111 ∷ 114 ∷ 101 ∷ tab ∷ []
 
 -- `late`, and a tab
 abbrev pub late_head : List ℕ
@@ -75,37 +80,36 @@ listing l v = let a = v.answer in listing_with (word a) (lines_for l v a) (late_
 
 -- ---- into a buffer
 
--- a refusal by its number, or bytes to show
-pub data Outcome : Type 0 where
-  refused : ℕ → Outcome
-  shown : List ℕ → Outcome
+-- bytes to show, or a refusal
+abbrev pub Outcome : Type 0
+Outcome = Result (List ℕ) Refusal
 
--- a refused solving is refused by its number
-abbrev pub outcome_for : Lists → Verdict → Answer → Outcome
-outcome_for l v (Refused k) = refused k
-outcome_for l v Order = shown (listing l v)
-outcome_for l v Core = shown (listing l v)
+-- a refused solving is refused for its reason
+abbrev pub outcome_for : Lists → Verdict → Result Finding Refusal → Outcome
+outcome_for l v (Err k) = Err k
+outcome_for l v (Ok Order) = Ok (listing l v)
+outcome_for l v (Ok Core) = Ok (listing l v)
 
 abbrev pub outcome : Lists → Verdict → Outcome
 outcome l v = outcome_for l v v.answer
 
 -- 9 where the buffer is shorter than the listing
 abbrev pub fitted : ℕ → Outcome → Outcome
-fitted room (refused k) = refused k
-fitted room (shown bytes) = pick (leb (length bytes) room) (shown bytes) (refused 9)
+fitted room (Err k) = Err k
+fitted room (Ok bytes) = pick (leb (length bytes) room) (Ok bytes) (Err ShortBuffer)
 
--- what showing a verdict answers, and listing a set
-abbrev pub shown_as : Outcome → Shown
-shown_as (refused k) = record { refusal = k; count = 0 }
-shown_as (shown bytes) = record { refusal = 0; count = length bytes }
+-- what showing a verdict answers, which is the byte count, and listing a set
+abbrev pub shown_as : Outcome → Result ℕ Refusal
+shown_as (Err k) = Err k
+shown_as (Ok bytes) = Ok (length bytes)
 
 abbrev pub listed : TaskSet → Outcome → Listed
 listed s o = record { shown = shown_as o; set = s }
 
 -- the buffer afterwards: as it was on a refusal; else the bytes, and then what stood after their places
 abbrev pub buffer_after : Outcome → List ℕ → List ℕ
-buffer_after (refused k) buffer = buffer
-buffer_after (shown bytes) buffer = onto bytes buffer
+buffer_after (Err k) buffer = buffer
+buffer_after (Ok bytes) buffer = onto bytes buffer
 
 -- the bytes that are always enough for a listing
 abbrev pub max_listing : ℕ

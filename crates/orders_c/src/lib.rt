@@ -7,16 +7,17 @@ ghost use Rattle.listing.specs.Listing.{fitted, buffer_after};
 ghost use Rattle.answer.specs.Answer.{answer_to, host_number};
 ghost use Rattle.answer.specs.Host.{HostGets};
 
-#[tactic(auto, using(crate::proofs::Hosting::hosting))]
+use answer::answer;
+
+#[tactic(auto)]
 #[unsafe(no_mangle)]
 pub extern "C" fn orders_solve(text: &[u8], out: &mut [u8]) -> u64
     ensures value { result ≡ host_number (fitted (length out.old) (answer_to text.now)) }
     ensures bytes { out.new ≡ buffer_after (fitted (length out.old) (answer_to text.now)) out.old }
     ensures replays { HostGets text.now result out.old out.new }
 {
-    let answered = answer::answer(text, out);
-    if answered.refusal != 0 {
-        return answered.refusal;
+    match answer(text, out) {
+        Ok(count) => 100 + count as u64,
+        Err(refused) => u64::from(refused.refusal),
     }
-    100 + answered.count as u64
 }

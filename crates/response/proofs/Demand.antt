@@ -1,16 +1,19 @@
 -- Rounding up, and what follows for demand: it grows with w and with the tasks above, and it is far from what a word
 -- holds. Assumes nothing.
-use Rattle.std.specs.Prelude.{◌≡◌, refl, Bool, List, T, length, get_or}
-use Rattle.std.proofs.Common.{sym, ◌∙◌, le_refl, le_trans, le_antisymm, lt_of_lt_of_le, le_of_eq, le_of_suc-le-suc, add-le-add, eq-zero-or-pos, div-mul-le_self, le-div_iff_mul-le, div-lt_iff_lt-mul, mul-le-mul, mul-le-mul_left, mul-le-mul_right, suc-mul, one-mul, arith}
+use Rattle.std.specs.Prelude.{Some}
+use Rattle.std.specs.Prelude.{◌≡◌, refl, Bool, List, [], T, length, get_or, take}
+use Rattle.std.proofs.Common.{sym, ap, ◌∙◌, le_refl, le_trans, le_antisymm, le_of_eq, le_of_suc-le-suc, add-le-add, eq-zero-or-pos, div-mul-le_self, le-div_iff_mul-le, div-lt_iff_lt-mul, mul-le-mul_left, mul-le-mul_right, suc-mul, one-mul, arith}
 use Rattle.std.proofs.Math.Logic.{⊎_elim}
-use Prim.Native.Nat.{ℕ, ◌+◌, ◌-◌, ◌*◌, ◌/◌, ◌≤◌, ◌<◌}
+use Prim.Native.Nat.{ℕ, suc, ◌+◌, ◌-◌, ◌*◌, ◌/◌, ◌≤◌, ◌<◌}
+use Rattle.std.specs.Int.{div_ceil}
+use Rattle.std.proofs.lemmas.Grind.{div_ceil_times}
+use Rattle.std.proofs.Math.Seq.{get_or-take, length-take-le}
 use Rattle.std.proofs.Math.Nat.{lt-div-mul-add, div-zero}
 use Rattle.sets.specs.Bounded.{Subset, every}
-use Rattle.sets.specs.Sum.{sum, sum_mono, sum_less, sum-le}
+use Rattle.sets.specs.Sum.{sum, sum_more, sum_start, sum_mono, sum_less, sum_cong, sum-le}
 use Rattle.taskset.specs.declared.Task.{Task}
 use Rattle.taskset.specs.Refusals.{max_tasks, max_period, InRanges}
 use Rattle.taskset.specs.Model.{task_at, SoundTasks}
-use Rattle.response.specs.declared.Response.TheVariants.{Within}
 use Rattle.response.specs.Equation.{ceil, interference, demand, response_time}
 use Rattle.response.specs.Agreement.{less-demand}
 use Rattle.response.specs.Blocking.{blocking_of}
@@ -34,6 +37,12 @@ ceil-above x t h = omega (arith, lt-div-mul-add {a = x + (t - 1)} h)
 
 pub ceil_least : (x t q : ℕ) → 1 ≤ t → x ≤ q * t → ceil x t ≤ q
 ceil_least x t q h l = le_of_suc-le-suc ((div-lt_iff_lt-mul h).1 (omega (arith, suc-mul q t)))
+
+-- as std computes it
+pub div_ceil_is : (x t : ℕ) → 1 ≤ t → div_ceil x t ≡ ceil x t
+div_ceil_is x t h =
+    let at = div_ceil_times x t h in
+    le_antisymm ((le-div_iff_mul-le h).1 (omega arith)) (ceil_least x t (div_ceil x t) h at.0)
 
 -- so it is 1 for x from 1 to t
 pub ceil_one : (x t : ℕ) → 1 ≤ x → x ≤ t → ceil x t ≡ 1
@@ -87,8 +96,8 @@ module _ {tasks : List Task} (sound : SoundTasks tasks) (i : ℕ) where
 
   -- fewer tasks above never lengthen a response
   pub fewer_above : (fewer above : ℕ → Bool) → Subset (length tasks) fewer above
-      → (limit r : ℕ) → response_time tasks i above limit ≡ Within r
-      → (q : ℕ) × (response_time tasks i fewer limit ≡ Within q) × (q ≤ r)
+      → (limit r : ℕ) → response_time tasks i above limit ≡ Some r
+      → (q : ℕ) × (response_time tasks i fewer limit ≡ Some q) × (q ≤ r)
   fewer_above fewer above sub =
       less-demand (demand tasks i fewer) (demand tasks i above) (demand_fewer fewer above sub) (task_at tasks i).jitter
 
@@ -108,15 +117,39 @@ load_mono base tasks kept v w h =
     add-le-add (le_refl base)
     (sum_mono (length kept) every every _ _ (λ k l t. t) (λ k l t. interference_mono (kept_at tasks kept k) v w h))
 
+-- of the first of the tasks kept
+module _ (base : ℕ) (tasks : List Task) (kept : List ℕ) where
+  pub load_front : (n : ℕ) → n ≤ length kept → (w : ℕ)
+      → load_demand base tasks (take n kept) w ≡ base + sum n every (λ k. interference (kept_at tasks kept k) w)
+  unfolding load_demand
+  load_front n h w =
+      rw (length-take-le n kept h)
+      (ap (λ (s : ℕ). base + s)
+      (sum_cong n every _ _ (λ k l. ap (λ (i : ℕ). interference (task_at tasks i) w) (get_or-take n kept k 0 l))))
+
+  pub load_none : (w : ℕ) → load_demand base tasks [] w ≡ base
+  unfolding load_demand
+  load_none w = sym (sum_start base every _)
+
+  pub load_more : (n : ℕ) → n < length kept → (w : ℕ)
+      → load_demand base tasks (take (n + 1) kept) w ≡ load_demand base tasks (take n kept) w + interference (kept_at tasks kept n) w
+  load_more n h w =
+      let more = sum_more n every (λ k. interference (kept_at tasks kept k) w) in
+      omega (arith, load_front (n + 1) (omega arith) w, load_front n (omega arith) w, more)
+
 module _ {base : ℕ} {tasks : List Task} {kept : List ℕ} (load : IsLoad base tasks kept) where
   pub kept_row : (k : ℕ) → k < length kept → InRanges (kept_at tasks kept k)
   kept_row k h = load.sound.each (get_or kept k 0) (load.inside k h)
 
-  -- the interference of 64 tasks is far from what a word holds
-  pub interference-sum : (j : ℕ) (w : ℕ) → w ≤ max_period → j ≤ length kept
-      → sum j every (λ k. interference (kept_at tasks kept k) w) ≤ max_tasks * (3 * max_period)
-  interference-sum j w short h =
-      let each : w + 2 * max_period ≤ 3 * max_period = omega arith in
-      le_trans
-      (sum-le j every _ (w + 2 * max_period) (λ k l t. interference-le (kept_at tasks kept k) w (kept_row k (lt_of_lt_of_le l h))))
-      (mul-le-mul (le_trans h load.few) each)
+  -- and what one task more brings is far from what a word holds
+  pub load_fits : (n : ℕ) → n < length kept → (w : ℕ) → w ≤ max_period
+      → load_demand base tasks (take n kept) w + interference (kept_at tasks kept n) w ≤ 4 * (max_tasks + 2) * max_period
+  load_fits n h w short =
+      let few = le_trans h load.few in
+      let each : (k : ℕ) → k < suc n → interference (kept_at tasks kept k) w ≤ 3 * max_period =
+      λ k l. le_trans (interference-le (kept_at tasks kept k) w (kept_row k (omega arith))) (omega arith) in
+      let brought = sum-le n every _ (3 * max_period) (λ k l t. each k (omega arith)) in
+      omega (arith, load_front base tasks kept n (omega arith) w, load.high, brought, each n (omega arith))
+
+-- for a loop over them
+pub ruleset load_steps = (load_none, load_more, load_fits)

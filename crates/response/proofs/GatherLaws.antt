@@ -5,76 +5,73 @@ use Rattle.std.proofs.Math.Path.{refl}
 use Rattle.std.proofs.Common.{ap, add-zero, arith, get_or-set_same, get_or-set_other}
 use Rattle.std.proofs.Math.Bool.{true, false}
 use Rattle.std.proofs.Math.Dec.{leb}
-use Rattle.std.proofs.Math.ListN.{length, get_or}
+use Rattle.std.proofs.Math.ListN.{length, get_or, length-set}
 use Rattle.std.proofs.Math.Seq.{get_or-take, length-take-le}
 use borrow.Author.Count.{below_more, below_none}
-use borrow.Author.Tests.{leb-true, le-leb, lt-leb}
+use borrow.Author.Tests.{leb-true}
 use Rattle.sets.specs.Choice.{pick}
 use Rattle.sets.specs.Bounded.{every}
 use Rattle.sets.specs.Sum.{sum, sum-none, sum_more, sum_start, sum_turn, sum_cong}
 use Rattle.taskset.specs.declared.Task.{Task}
-use Rattle.taskset.specs.Refusals.{max_period, InRanges}
-use Rattle.response.specs.declared.Load.{Load}
+use Rattle.taskset.specs.Refusals.{max_tasks, max_period, InRanges}
+use Rattle.response.specs.declared.Share.{Share}
 use Rattle.response.specs.Equation.{interference, demand}
-use Rattle.response.proofs.Demand.{interference_once}
+use Rattle.response.proofs.Demand.{interference_once, load_front}
+use Rattle.response.proofs.BlockingLaws.{blocking_le}
 use Rattle.taskset.specs.Model.{task_at, SoundTasks}
 use Rattle.response.specs.Blocking.{blocking_of}
-use Rattle.response.specs.Load.{share_by, share_of, StandsFor, kept_at, load_demand}
+use Rattle.response.specs.Load.{share_by, share_of, StandsFor, kept_at}
 
-module _ (above : Bool) (room : ℕ) (t u : Task) (read : u ≡ t) where
-  pub share_once : above ≡ true → room + u.jitter ≤ u.period
-      → record { base = u.execution; count = 0; start = u.execution } ≡ share_of above t room
-  unfolding share_of
-  share_once a h = rw (← read, a, le-leb (room + u.jitter) u.period h)
+module _ (tasks : List Task) (i : ℕ) (above : ℕ → Bool) where
+  -- what the task itself needs
+  abbrev own : ℕ
+  own = blocking_of tasks i above + (task_at tasks i).execution
 
-  pub share_kept : above ≡ true → u.period < room + u.jitter
-      → record { base = 0; count = 1; start = u.execution } ≡ share_of above t room
-  unfolding share_of
-  share_kept a h = rw (← read, a, lt-leb (room + u.jitter) u.period h)
-
-pub share_none : (above : Bool) (t : Task) (room : ℕ) → above ≡ false
-    → record { base = 0; count = 0; start = 0 } ≡ share_of above t room
-unfolding share_of
-share_none above t room a = rw a
-
--- ---- a loop over the tasks
-
-module _ (tasks : List Task) where
   -- what the first n that are kept bring
   abbrev bring : ℕ → List ℕ → ℕ → ℕ
   bring n kept w = sum n every (λ k. interference (kept_at tasks kept k) w)
 
   -- and what those above among the first j bring
-  abbrev above_bring : (ℕ → Bool) → ℕ → ℕ → ℕ
-  above_bring above j w = sum j above (λ k. interference (task_at tasks k) w)
+  abbrev above_bring : ℕ → ℕ → ℕ
+  above_bring j w = sum j above (λ k. interference (task_at tasks k) w)
 
-  -- lists that agree bring the same
-  bring_same : (n : ℕ) (xs ys : List ℕ) → ((k : ℕ) → k < n → get_or xs k 0 ≡ get_or ys k 0) → (w : ℕ) → bring n xs w ≡ bring n ys w
-  bring_same n xs ys same w =
-      sum_cong n every _ _ (λ k h. ap (λ (i : ℕ). interference (task_at tasks i) w) (same k h))
-
-  -- a base and n tasks that stand for `own` and the first j tasks
-  pub record Gathered (above : ℕ → Bool) (room own j base start n : ℕ) (kept : List ℕ) : Type 0 where
+  -- a base and n tasks that stand for the task and for the first j tasks
+  pub record Gathered (room j base start n : ℕ) (kept : List ℕ) : Type 0 where
     pub few : n ≤ j
+    pub room_for : n ≤ length kept
     pub inside : (k : ℕ) → k < n → get_or kept k 0 < length tasks
     pub low : 1 ≤ base
     pub high : start ≤ (j + 2) * max_period
     pub first : start ≡ base + bring n kept 1
-    pub same : (w : ℕ) → 1 ≤ w → w ≤ room → base + bring n kept w ≡ own + above_bring above j w
+    pub same : (w : ℕ) → 1 ≤ w → w ≤ room → base + bring n kept w ≡ own + above_bring j w
 
-module _ {tasks : List Task} {above : ℕ → Bool} {room own : ℕ} where
-  pub gathered_none : {kept : List ℕ} → 1 ≤ own → own ≤ 2 * max_period → Gathered tasks above room own 0 own own 0 kept
-  gathered_none {kept} low high =
+-- sums that words hold
+pub record Fit (b s n : ℕ) : Type 0 where
+  pub base : b ≤ (max_tasks + 2) * max_period
+  pub start : s ≤ (max_tasks + 2) * max_period
+  pub count : n ≤ max_tasks
+
+pub own_fits : {tasks : List Task} {i : ℕ} → SoundTasks tasks → i < length tasks → (above : ℕ → Bool) {b : ℕ} → b ≡ blocking_of tasks i above
+    → let own = b + (task_at tasks i).execution in (1 ≤ own) × (own ≤ 2 * max_period)
+own_fits {i} sound h above e = let r = sound.each i h in (omega arith, omega (arith, blocking_le sound i above, r.period, r.execution))
+
+module _ {tasks : List Task} {i : ℕ} {above : ℕ → Bool} (sound : SoundTasks tasks) where
+  -- before the loop
+  pub gathered_none : {b room : ℕ} {kept : List ℕ} → i < length tasks → b ≡ blocking_of tasks i above
+      → let own = b + (task_at tasks i).execution in Gathered tasks i above room 0 own own 0 kept
+  gathered_none {b} {room} {kept} h e =
+      let fits = own_fits sound h above e in
       record {
         few = omega arith;
+        room_for = omega arith;
         inside = below_none (λ k. get_or kept k 0 < length tasks);
-        low = low;
+        low = omega arith;
         high = omega arith;
-        first = sum_start own every _;
-        same = λ w l h. simp sum-none;
+        first = sum_start _ every _;
+        same = λ w l h. simp sum-none (rw e);
       }
 
-  module _ {j base start n : ℕ} {kept : List ℕ} (g : Gathered tasks above room own j base start n kept) (ok : SoundTasks tasks) where
+  module _ {room j base start n : ℕ} {kept : List ℕ} (g : Gathered tasks i above room j base start n kept) where
     -- one task more: it is written after the n, and counts where it is kept
     module _ (fits : n < length kept) (here : j < length tasks) where
       abbrev next : List ℕ
@@ -92,31 +89,32 @@ module _ {tasks : List Task} {above : ℕ → Bool} {room own : ℕ} where
       below : (k : ℕ) → k < n → get_or next k 0 < length tasks
       below k h = omega (arith, same_index k h, g.inside k h)
 
-      brings : (w : ℕ) → bring tasks n next w ≡ bring tasks n kept w
-      brings = bring_same tasks n next kept same_index
+      brings : (w : ℕ) → bring tasks i above n next w ≡ bring tasks i above n kept w
+      brings w = sum_cong n every _ _ (λ k h. ap (λ (m : ℕ). interference (task_at tasks m) w) (same_index k h))
 
-      brings_more : (w : ℕ) → bring tasks (n + 1) next w ≡ bring tasks n kept w + interference t w
+      brings_more : (w : ℕ) → bring tasks i above (n + 1) next w ≡ bring tasks i above n kept w + interference t w
       brings_more w =
           let last : interference (kept_at tasks next n) w ≡ interference t w = rw written in
           omega (arith, sum_more n every (λ k. interference (kept_at tasks next k) w), brings w, last)
 
       turn : (w x : ℕ) → 1 ≤ w → w ≤ room → x ≡ pick (above j) (interference t w) 0
-          → base + bring tasks n kept w + x ≡ own + above_bring tasks above (j + 1) w
-      turn w x low high = sum_turn _ own j above _ x (g.same w low high)
+          → base + bring tasks i above n kept w + x ≡ own tasks i above + above_bring tasks i above (j + 1) w
+      turn w x low high = sum_turn _ _ j above _ x (g.same w low high)
 
-      pub gathered_more : {s : Load} → s ≡ share_of (above j) t room
-          → Gathered tasks above room own (j + 1) (base + s.base) (start + s.start) (n + s.count) next
+      pub gathered_more : {s : Share} → s ≡ share_of (above j) t room
+          → Gathered tasks i above room (j + 1) (base + s.base) (start + s.start) (n + s.count) next
       unfolding share_of
-      gathered_more f = rw f (go (above j) (leb (room + t.jitter) t.period) refl refl (ok.each j here))
+      gathered_more f = rw f (go (above j) (leb (room + t.jitter) t.period) refl refl (sound.each j here))
         where
           go : (a o : Bool) → above j ≡ a → leb (room + t.jitter) t.period ≡ o → InRanges t
               → let p = share_by a o t in
-              Gathered tasks above room own (j + 1) (base + p.base) (start + p.start) (n + p.count) next
+              Gathered tasks i above room (j + 1) (base + p.base) (start + p.start) (n + p.count) next
           go true true a o ranges =
               let early = leb-true (room + t.jitter) t.period o in
               rw (add-zero n)
               (record {
                 few = omega (arith, g.few);
+                room_for = omega (arith, fits, length-set kept n j);
                 inside = below;
                 low = omega (arith, g.low);
                 high = omega (arith, g.high, ranges.period, ranges.execution);
@@ -129,6 +127,7 @@ module _ {tasks : List Task} {above : ℕ → Bool} {room own : ℕ} where
               let once = interference_once t 1 (omega arith) (omega (arith, ranges.jitter)) in
               record {
                 few = omega (arith, g.few);
+                room_for = omega (arith, fits, length-set kept n j);
                 inside = below_more (λ k. get_or next k 0 < length tasks) n below (omega (arith, written, here));
                 low = omega (arith, g.low);
                 high = omega (arith, g.high, ranges.period, ranges.execution);
@@ -139,6 +138,7 @@ module _ {tasks : List Task} {above : ℕ → Bool} {room own : ℕ} where
               rw (add-zero n)
               (record {
                 few = omega (arith, g.few);
+                room_for = omega (arith, fits, length-set kept n j);
                 inside = below;
                 low = omega (arith, g.low);
                 high = omega (arith, g.high);
@@ -146,25 +146,31 @@ module _ {tasks : List Task} {above : ℕ → Bool} {room own : ℕ} where
                 same = λ w low high. omega (arith, turn w 0 low high (rw a), brings w);
               })
 
+    -- words hold the sums
+    pub gathered_fits : j ≤ length tasks → Fit base start n
+    gathered_fits h =
+        record {
+          base = omega (arith, g.first, g.high, sound.few);
+          start = omega (arith, g.high, sound.few);
+          count = omega (arith, g.few, sound.few);
+        }
+
     -- at its end they stand for the demand
-    pub gathered_all : {i : ℕ} → own ≡ blocking_of tasks i above + (task_at tasks i).execution → j ≡ length tasks → n ≤ length kept
-        → StandsFor tasks i above room base (take n kept) start
-    unfolding demand load_demand
-    gathered_all e end fits =
-        let long = length-take-le n kept fits in
-        let taken : (w : ℕ) → bring tasks (length (take n kept)) (take n kept) w ≡ bring tasks n kept w =
-        λ w. rw long (bring_same tasks n (take n kept) kept (λ k h. get_or-take n kept k 0 h) w) in
+    pub gathered_all : j ≡ length tasks → StandsFor tasks i above room base (take n kept) start
+    unfolding demand
+    gathered_all end =
+        let brought = load_front base tasks kept n g.room_for in
         record {
           is_load =
               record {
-                sound = ok;
+                sound = sound;
                 low = g.low;
-                high = omega (arith, g.high, g.first, ok.few);
-                few = omega (arith, long, g.few, ok.few);
+                high = (gathered_fits (omega arith)).base;
+                few = omega (arith, length-take-le n kept g.room_for, g.few, sound.few);
                 inside = λ k h.
-                    let under : k < n = omega (arith, long) in
+                    let under : k < n = omega (arith, length-take-le n kept g.room_for) in
                     omega (arith, get_or-take n kept k 0 under, g.inside k under);
               };
-          starts = omega (arith, g.first, taken 1);
-          same = λ w low high. omega (arith, rw end at (g.same w low high), taken w, e);
+          starts = omega (arith, g.first, brought 1);
+          same = λ w low high. omega (arith, rw end at (g.same w low high), brought w);
         }

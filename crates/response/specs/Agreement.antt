@@ -1,5 +1,6 @@
 -- The functions of `Equation` give what its relations say, and nothing else does; and less demand never lengthens a
 -- response. All of it for any demand d. Assumes nothing.
+use Rattle.std.specs.Prelude.{Option, Some, None}
 use Rattle.std.specs.Prelude.{◌≡◌, Bool}
 use Rattle.std.proofs.Math.Path.{refl}
 use Rattle.std.proofs.Common.{sym, ap, ap₂, subst, ⊎_elim, le_refl, le_trans, le_antisymm, eq-or-lt_of_le}
@@ -9,10 +10,6 @@ use native.Mathlib.Omega.{arith}
 use borrow.Author.Tests.{leb-true, leb-false}
 use Rattle.std.proofs.Math.Dec.{leb}
 use Rattle.sets.specs.Choice.{pick}
-use Rattle.response.specs.declared.Window.{Window}
-use Rattle.response.specs.declared.Window.TheVariants.{At, Beyond}
-use Rattle.response.specs.declared.Response.{Response}
-use Rattle.response.specs.declared.Response.TheVariants.{Within, Late}
 use Rattle.response.specs.Equation.{SaysWindow, Says, window_from, window_of, respond, response_of}
 use Rattle.response.specs.Load.{Bounds}
 
@@ -29,7 +26,7 @@ module _ (d : ℕ → ℕ) where
       go (leb (d w) w) refl (λ over. window_from_lem room fuel (suc w) (omega arith) (omega arith) (bounds_next w over b))
     where
       go : (t : Bool) → leb (d w) w ≡ t → (w < d w → SaysWindow d room (window_from d fuel (suc w)))
-          → SaysWindow d room (pick t (At w) (window_from d fuel (suc w)))
+          → SaysWindow d room (pick t (Some w) (window_from d fuel (suc w)))
       go true h later = (record { low = low; met = leb-true (d w) w h; least = b }, omega arith)
       go false h later = later (leb-false (d w) w h)
 
@@ -37,43 +34,43 @@ module _ (d : ℕ → ℕ) where
   unfolding window_of
   window_says room = window_from_lem room room 1 (omega arith) (omega arith) (λ v low met. low)
 
-  window_unique : (room : ℕ) (a b : Window) → SaysWindow d room a → SaysWindow d room b → a ≡ b
-  window_unique room (At w) (At v) s t =
-      ap At (le_antisymm (s.0.least v t.0.low t.0.met) (t.0.least w s.0.low s.0.met))
-  window_unique room (At w) Beyond s t = absurd (omega (arith, t w s.0.low s.0.met))
-  window_unique room Beyond (At v) s t = absurd (omega (arith, s v t.0.low t.0.met))
-  window_unique room Beyond Beyond s t = refl
+  window_unique : (room : ℕ) (a b : Option ℕ) → SaysWindow d room a → SaysWindow d room b → a ≡ b
+  window_unique room (Some w) (Some v) s t =
+      ap Some (le_antisymm (s.0.least v t.0.low t.0.met) (t.0.least w s.0.low s.0.met))
+  window_unique room (Some w) None s t = absurd (omega (arith, t w s.0.low s.0.met))
+  window_unique room None (Some v) s t = absurd (omega (arith, s v t.0.low t.0.met))
+  window_unique room None None s t = refl
 
   -- so an answer that says so is the function's
-  pub window_is : (room : ℕ) (a : Window) → SaysWindow d room a → a ≡ window_of d room
+  pub window_is : (room : ℕ) (a : Option ℕ) → SaysWindow d room a → a ≡ window_of d room
   window_is room a s = window_unique room a (window_of d room) s (window_says room)
 
-  pub window_room : (room w : ℕ) → At w ≡ window_of d room → w ≤ room
-  window_room room w e = (subst (SaysWindow d room) (sym e) (window_says room)).1
+  pub window_both : (room : ℕ) (a : Option ℕ) → a ≡ window_of d room → (a ≡ window_of d room) × SaysWindow d room a
+  window_both room a e = (e, subst (SaysWindow d room) (sym e) (window_says room))
 
-  respond_says : (jitter limit : ℕ) (a : Window) → SaysWindow d (limit - jitter) a → Says d jitter limit (respond jitter a)
-  respond_says jitter limit (At w) s = (w, s.0, refl, omega (arith, s.0.low, s.1))
-  respond_says jitter limit Beyond s = λ w low met. omega (arith, s w low met)
+  pub no_window : window_of d 0 ≡ None
+  unfolding window_of window_from
+  no_window = refl
+
+  respond_says : (jitter limit : ℕ) (a : Option ℕ) → SaysWindow d (limit - jitter) a → Says d jitter limit (respond jitter a)
+  respond_says jitter limit (Some w) s = (w, s.0, refl, omega (arith, s.0.low, s.1))
+  respond_says jitter limit None s = λ w low met. omega (arith, s w low met)
 
   pub response_says : (jitter limit : ℕ) → Says d jitter limit (response_of d jitter limit)
   unfolding response_of
   response_says jitter limit = respond_says jitter limit (window_of d (limit - jitter)) (window_says (limit - jitter))
 
-  response_unique : (jitter limit : ℕ) (a b : Response) → Says d jitter limit a → Says d jitter limit b → a ≡ b
-  response_unique jitter limit (Within r) (Within q) s t =
+  response_unique : (jitter limit : ℕ) (a b : Option ℕ) → Says d jitter limit a → Says d jitter limit b → a ≡ b
+  response_unique jitter limit (Some r) (Some q) s t =
       let le = s.1.least t.0 t.1.low t.1.met in
       let ge = t.1.least s.0 s.1.low s.1.met in
-      ap Within (omega (arith, s.2, t.2))
-  response_unique jitter limit (Within r) Late s t = absurd (omega (arith, t s.0 s.1.low s.1.met, s.2, s.3))
-  response_unique jitter limit Late (Within q) s t = absurd (omega (arith, s t.0 t.1.low t.1.met, t.2, t.3))
-  response_unique jitter limit Late Late s t = refl
+      ap Some (omega (arith, s.2, t.2))
+  response_unique jitter limit (Some r) None s t = absurd (omega (arith, t s.0 s.1.low s.1.met, s.2, s.3))
+  response_unique jitter limit None (Some q) s t = absurd (omega (arith, s t.0 t.1.low t.1.met, t.2, t.3))
+  response_unique jitter limit None None s t = refl
 
-  pub response_is : (jitter limit : ℕ) (a : Response) → Says d jitter limit a → a ≡ response_of d jitter limit
+  pub response_is : (jitter limit : ℕ) (a : Option ℕ) → Says d jitter limit a → a ≡ response_of d jitter limit
   response_is jitter limit a s = response_unique jitter limit a (response_of d jitter limit) s (response_says jitter limit)
-
-  pub response_both : (jitter limit : ℕ) (a : Response) → a ≡ response_of d jitter limit
-      → (a ≡ response_of d jitter limit) × Says d jitter limit a
-  response_both jitter limit a e = (e, subst (Says d jitter limit) (sym e) (response_says jitter limit))
 
   -- ---- the climb
 
@@ -88,7 +85,7 @@ same_from : (d e : ℕ → ℕ) (fuel w : ℕ) → ((v : ℕ) → w ≤ v → v 
 unfolding window_from
 same_from d e zero w same = refl
 same_from d e (suc fuel) w same =
-    ap₂ (λ (x : ℕ) (later : Window). pick (leb x w) (At w) later) (same w (le_refl w) (omega arith))
+    ap₂ (λ (x : ℕ) (later : Option ℕ). pick (leb x w) (Some w) later) (same w (le_refl w) (omega arith))
     (same_from d e fuel (suc w) (λ v low high. same v (omega arith) (omega arith)))
 
 pub window_same : (d e : ℕ → ℕ) (room : ℕ) → ((w : ℕ) → 1 ≤ w → w ≤ room → d w ≡ e w) → window_of d room ≡ window_of e room
@@ -97,14 +94,14 @@ window_same d e room same = same_from d e room 1 (λ v low high. same v low (ome
 
 -- ---- less demand, no longer a response
 
-pub less-demand : (c d : ℕ → ℕ) → ((w : ℕ) → 1 ≤ w → c w ≤ d w) → (jitter limit r : ℕ) → response_of d jitter limit ≡ Within r
-    → (q : ℕ) × (response_of c jitter limit ≡ Within q) × (q ≤ r)
+pub less-demand : (c d : ℕ → ℕ) → ((w : ℕ) → 1 ≤ w → c w ≤ d w) → (jitter limit r : ℕ) → response_of d jitter limit ≡ Some r
+    → (q : ℕ) × (response_of c jitter limit ≡ Some q) × (q ≤ r)
 less-demand c d less jitter limit r e =
     go (response_of c jitter limit) refl (subst (Says d jitter limit) e (response_says d jitter limit)) (response_says c jitter limit)
   where
-    go : (a : Response) → response_of c jitter limit ≡ a → Says d jitter limit (Within r) → Says c jitter limit a
-        → (q : ℕ) × (response_of c jitter limit ≡ Within q) × (q ≤ r)
-    go (Within q) f s t =
+    go : (a : Option ℕ) → response_of c jitter limit ≡ a → Says d jitter limit (Some r) → Says c jitter limit a
+        → (q : ℕ) × (response_of c jitter limit ≡ Some q) × (q ≤ r)
+    go (Some q) f s t =
         let h = t.1.least s.0 s.1.low (le_trans (less s.0 s.1.low) s.1.met) in
         (q, f, omega (arith, s.2, t.2))
-    go Late f s t = absurd (omega (arith, t s.0 s.1.low (le_trans (less s.0 s.1.low) s.1.met), s.2, s.3))
+    go None f s t = absurd (omega (arith, t s.0 s.1.low (le_trans (less s.0 s.1.low) s.1.met), s.2, s.3))

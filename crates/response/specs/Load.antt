@@ -7,8 +7,8 @@ use Rattle.sets.specs.Sum.{sum}
 use Rattle.taskset.specs.declared.Task.{Task}
 use Rattle.taskset.specs.Refusals.{max_tasks, max_period}
 use Rattle.taskset.specs.Model.{task_at, SoundTasks}
-use Rattle.response.specs.declared.Load.{Load}
-use Rattle.response.specs.declared.Part.{Part}
+use Rattle.response.specs.declared.Share.{Share}
+use Rattle.response.specs.declared.climb.Part.{Part}
 use Rattle.response.specs.Equation.{ceil, interference, demand}
 
 -- no solution lies below w
@@ -39,12 +39,12 @@ pub record StandsFor (tasks : List Task) (i : ℕ) (above : ℕ → Bool) (room 
   pub same : (w : ℕ) → 1 ≤ w → w ≤ room → load_demand base tasks kept w ≡ demand tasks i above w
 
 -- what a task adds to a load, by whether it is above and whether it is released once
-abbrev pub share_by : Bool → Bool → Task → Load
+abbrev pub share_by : Bool → Bool → Task → Share
 share_by true true t = record { base = t.execution; count = 0; start = t.execution }
 share_by true false t = record { base = 0; count = 1; start = t.execution }
 share_by false once t = record { base = 0; count = 0; start = 0 }
 
-unfoldable pub share_of : Bool → Task → ℕ → Load
+unfoldable pub share_of : Bool → Task → ℕ → Share
 share_of above t room = share_by above (leb (room + t.jitter) t.period) t
 
 -- ---- what a task adds to a bound

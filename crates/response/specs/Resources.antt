@@ -9,7 +9,8 @@ use Rattle.sets.specs.Marks.{table}
 use Rattle.taskset.specs.declared.Task.{Task}
 use Rattle.taskset.specs.Refusals.{resources, section_on}
 use Rattle.taskset.specs.Model.{task_at}
-use Rattle.response.specs.declared.Resources.{Resources}
+use Rattle.response.specs.declared.blocking.Resources.{Resources}
+use Rattle.response.specs.declared.blocking.Usage.{Usage}
 use Rattle.response.specs.Blocking.{uses, blocking_of}
 
 -- b is the blocking of each of these tasks, with the others that are left above it
@@ -37,16 +38,19 @@ lengths tasks k j = section_on (task_at tasks j) k
 unfoldable pub held_on : List Task → (ℕ → Bool) → ℕ → ℕ
 held_on tasks left k = maximum (length tasks) (levelled left) (lengths tasks k)
 
--- what is kept at a level, where no task uses a resource from `used` on
-abbrev pub FewUsed : Resources → Type 0
-FewUsed r = r.used ≤ resources
+-- both
+abbrev pub usage_of : List Task → (ℕ → Bool) → ℕ → Usage
+usage_of tasks left k = record { users = users_on tasks left k; held = held_on tasks left k }
 
+-- what is kept at a level, where no task uses a resource from `used` on
 pub record Tracks (tasks : List Task) (left : ℕ → Bool) (r : Resources) : Type 0 where
-  pub few : FewUsed r
+  pub few : r.used ≤ resources
   pub rest : UnusedFrom tasks r.used
-  pub users : r.users ≡ table resources (users_on tasks left)
-  pub held : r.held ≡ table resources (held_on tasks left)
+  pub usage : r.usage ≡ table resources (usage_of tasks left)
 
 -- the blocking that this gives
+abbrev pub no_usage : Usage
+no_usage = record { users = 0; held = 0 }
+
 unfoldable pub blocking_by : Resources → ℕ
-blocking_by r = maximum r.used (λ k. ltb 0 (get_or r.users k 0)) (λ k. get_or r.held k 0)
+blocking_by r = maximum r.used (λ k. ltb 0 (get_or r.usage k no_usage).users) (λ k. (get_or r.usage k no_usage).held)

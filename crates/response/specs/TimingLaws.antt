@@ -1,21 +1,18 @@
 -- Of the answers up to the period exactly one holds, and it is the function's; and a search that stops at the deadline finds the
 -- same where that is no later than the period. For any demand d. Assumes nothing.
-use Rattle.std.specs.Prelude.{◌≡◌, refl, Bool, List, ◌↔◌, ℕ, ◌≤◌}
+use Rattle.std.specs.Prelude.{Option, Some, None}
+use Rattle.std.specs.Prelude.{◌≡◌, refl, Bool, ◌↔◌, ℕ, ◌≤◌}
 use Rattle.std.proofs.Math.Path.{sym, ap}
 use Rattle.std.proofs.Common.{subst, ◌∙◌, arith}
 use Rattle.std.proofs.Math.Bool.{true, false}
 use Rattle.std.proofs.Math.Dec.{leb}
 use borrow.Author.Tests.{leb-true, leb-false, le-leb, lt-leb}
 use Rattle.sets.specs.Choice.{pick}
-use Rattle.taskset.specs.declared.Task.{Task}
-use Rattle.taskset.specs.Model.{task_at}
-use Rattle.response.specs.declared.Response.{Response}
-use Rattle.response.specs.declared.Response.TheVariants.{Within, Late}
 use Rattle.response.specs.declared.Timing.{Timing}
 use Rattle.response.specs.declared.Timing.TheVariants.{Met, Missed, PastPeriod}
-use Rattle.response.specs.Equation.{demand, Says, response_of, response_time}
+use Rattle.response.specs.Equation.{Says, response_of}
 use Rattle.response.specs.Agreement.{response_says, response_is}
-use Rattle.response.specs.Timing.{SaysTimingBy, SaysTiming, judged, timing_by, timing_of, reported, up_to_deadline}
+use Rattle.response.specs.Timing.{SaysTimingBy, judged, timing_by, reported, up_to_deadline}
 
 module _ (d : ℕ → ℕ) (jitter deadline period : ℕ) where
   abbrev SaysSo : Timing → Type 0
@@ -26,24 +23,24 @@ module _ (d : ℕ → ℕ) (jitter deadline period : ℕ) where
   unfolding timing_by
   timing_says = go (response_of d jitter period) (response_says d jitter period)
     where
-      within : (r : ℕ) → Says d jitter period (Within r) → (b : Bool) → leb r deadline ≡ b → SaysSo (pick b (Met r) (Missed r))
+      within : (r : ℕ) → Says d jitter period (Some r) → (b : Bool) → leb r deadline ≡ b → SaysSo (pick b (Met r) (Missed r))
       within r s true e = (s, leb-true r deadline e)
       within r s false e = (s, leb-false r deadline e)
 
-      go : (a : Response) → Says d jitter period a → SaysSo (judged deadline a)
-      go (Within r) s = within r s (leb r deadline) refl
-      go Late s = s
+      go : (a : Option ℕ) → Says d jitter period a → SaysSo (judged deadline a)
+      go (Some r) s = within r s (leb r deadline) refl
+      go None s = s
 
   -- and one that holds is the function's
   timing_is : (a : Timing) → SaysSo a → a ≡ timing_by d jitter deadline period
   unfolding timing_by
   timing_is (Met r) s =
-      let here : judged deadline (Within r) ≡ Met r = rw (le-leb r deadline s.1) in
-      sym here ∙ ap (judged deadline) (response_is d jitter period (Within r) s.0)
+      let here : judged deadline (Some r) ≡ Met r = rw (le-leb r deadline s.1) in
+      sym here ∙ ap (judged deadline) (response_is d jitter period (Some r) s.0)
   timing_is (Missed r) s =
-      let here : judged deadline (Within r) ≡ Missed r = rw (lt-leb r deadline s.1) in
-      sym here ∙ ap (judged deadline) (response_is d jitter period (Within r) s.0)
-  timing_is PastPeriod s = ap (judged deadline) (response_is d jitter period Late s)
+      let here : judged deadline (Some r) ≡ Missed r = rw (lt-leb r deadline s.1) in
+      sym here ∙ ap (judged deadline) (response_is d jitter period (Some r) s.0)
+  timing_is PastPeriod s = ap (judged deadline) (response_is d jitter period None s)
 
   pub timing_exactly : (a : Timing) → SaysSo a ↔ (a ≡ timing_by d jitter deadline period)
   timing_exactly a = (timing_is a, λ e. subst SaysSo (sym e) timing_says)
@@ -66,14 +63,3 @@ module _ (d : ℕ → ℕ) (jitter deadline period : ℕ) where
       go (Met r) s = (s.0.0, s.0.1, s.0.2, s.1)
       go (Missed r) s = λ w low met. omega (arith, s.0.1.least w low met, s.0.2, s.1)
       go PastPeriod s = λ w low met. omega (arith, s w low met)
-
--- ---- for a task that was read, from its response up to the period
-
-pub timing_found : (tasks : List Task) (i : ℕ) (above : ℕ → Bool) (own : Task) → own ≡ task_at tasks i
-    → (a : Response) → a ≡ response_time tasks i above own.period → (t : Timing) → judged own.deadline a ≡ t
-    → (t ≡ timing_of tasks i above) × SaysTiming tasks i above t
-unfolding timing_by
-timing_found tasks i above own read a e t f =
-    let is : t ≡ timing_of tasks i above = sym f ∙ ap (judged own.deadline) e ∙ rw read in
-    let at = task_at tasks i in
-    (is, (timing_exactly (demand tasks i above) at.jitter at.deadline at.period t).1 is)

@@ -1,157 +1,125 @@
-// Blocking at a level, kept up from level to level: how many of the tasks left use each resource, and the longest section on it of
-// those that have a level.
+// Blocking at a level, kept up from level to level.
 
 ghost use Rattle.std.specs.Prelude.{◌≡◌, Bool, false, ℕ, ◌≤◌, ◌<◌, T, length};
 ghost use Rattle.sets.specs.Bounded.{any, without};
 ghost use Rattle.sets.specs.Marks.{marked};
-ghost use Rattle.taskset.specs.Refusals.{max_tasks, resources};
+ghost use Rattle.taskset.specs.Refusals.{resources};
 ghost use Rattle.taskset.specs.Model.{task_at};
-ghost use Rattle.taskset.specs.Words.{tasks_in};
 ghost use Rattle.response.specs.Blocking.{uses};
-ghost use Rattle.response.specs.Resources.{BlocksEach, UnusedFrom, users_on, held_on, FewUsed, Tracks, blocking_by};
+ghost use Rattle.response.specs.Resources.{BlocksEach, UnusedFrom, usage_of, Tracks, blocking_by};
 
-use crate::Resources;
-use sets::{larger, when};
-use taskset::{MAX_TASKS, RESOURCES, TASK_WORDS, TaskIndex, section_in, task_in, uses_none};
+use taskset::{MAX_TASKS, RESOURCES, Task, TaskIndex, Tasks};
+
+// Of a resource: how many of the tasks left use it, and the longest section on it of those that have a level.
+#[derive(Clone, Copy, Default)]
+pub struct Usage {
+    pub users: u64,
+    pub held: u64,
+}
+
+// What is kept at a level to know the blocking there. No task uses a resource from `used` on. An array and a count, since nothing
+// is allocated.
+#[derive(Clone, Copy)]
+pub struct Resources {
+    pub used: usize,
+    pub usage: [Usage; RESOURCES],
+}
 
 // Some task uses this resource.
-fn is_used(rows: &[u64], resource: usize) -> bool
+fn is_used(tasks: &[Task], resource: usize) -> bool
     requires { resource < resources }
-    ensures { result ≡ any (length (tasks_in rows.now)) (λ j. uses (task_at (tasks_in rows.now) j) resource) }
+    ensures { result ≡ any (length tasks.now) (λ j. uses (task_at tasks.now j) resource) }
 {
-    let n = rows.len() / TASK_WORDS;
-    let mut j = 0;
-    while j < n {
-        if 0 < section_in(rows, j, resource) {
-            return true;
-        }
-        j += 1;
-    }
-    false
+    tasks.iter().any(|t| 0 < t.section(resource))
 }
 
 // Some task uses a resource.
-fn is_shared(rows: &[u64]) -> bool
-    ensures { result ≡ false → UnusedFrom (tasks_in rows.now) 0 }
+fn is_shared(tasks: &[Task]) -> bool
+    ensures { result ≡ false → UnusedFrom tasks.now 0 }
 {
-    let n = rows.len() / TASK_WORDS;
-    let mut j = 0;
-    while j < n {
-        if !uses_none(task_in(rows, j)) {
-            return true;
-        }
-        j += 1;
-    }
-    false
+    tasks.iter().any(|t| !t.uses_none())
 }
 
 // A number of resources from which on no task uses one: up to the last that some task uses.
-fn used_resources(rows: &[u64]) -> usize
+fn used_resources(tasks: &[Task]) -> usize
     ensures upper_bound { result ≤ resources }
-    ensures unused { UnusedFrom (tasks_in rows.now) result }
+    ensures unused { UnusedFrom tasks.now result }
 {
-    if !is_shared(rows) {
+    if !is_shared(tasks) {
         return 0;
     }
-    let mut used = RESOURCES;
-    while 0 < used {
-        if is_used(rows, used - 1) {
-            return used;
+    for resource in (0..RESOURCES).rev() {
+        if is_used(tasks, resource) {
+            return resource + 1;
         }
-        used -= 1;
     }
     0
 }
 
 // How many of the tasks left use a resource, and the longest section on it of those that have a level.
-fn users_on(rows: &[u64], left: [bool; MAX_TASKS], resource: usize) -> u64
-    requires rows_len_bound { length (tasks_in rows.now) ≤ max_tasks }
-    requires resource_lt_resources { resource < resources }
-    ensures { result ≡ users_on (tasks_in rows.now) (marked left) resource }
+fn usage_on(tasks: Tasks<'_>, left: &[bool; MAX_TASKS], resource: usize) -> Usage
+    requires { resource < resources }
+    ensures { result ≡ usage_of tasks.entry.list.now (marked left.now) resource }
 {
-    let n = rows.len() / TASK_WORDS;
-    let mut count = 0;
-    let mut j = 0;
-    while j < n {
-        count += when(left[j] & (0 < section_in(rows, j, resource)), 1);
-        j += 1;
+    let mut usage = Usage::default();
+    for (t, is_left) in tasks.list.iter().zip(left) {
+        let section = t.section(resource);
+        if *is_left {
+            usage.users += u64::from(0 < section);
+        } else {
+            usage.held = usage.held.max(section);
+        }
     }
-    count
+    usage
 }
 
-fn held_on(rows: &[u64], left: [bool; MAX_TASKS], resource: usize) -> u64
-    requires rows_len_bound { length (tasks_in rows.now) ≤ max_tasks }
-    requires resource_lt_resources { resource < resources }
-    ensures { result ≡ held_on (tasks_in rows.now) (marked left) resource }
-{
-    let n = rows.len() / TASK_WORDS;
-    let mut longest = 0;
-    let mut j = 0;
-    while j < n {
-        longest = larger(longest, when(!left[j], section_in(rows, j, resource)));
-        j += 1;
+impl Resources {
+    // What is kept where these tasks are left.
+    pub fn at(tasks: Tasks<'_>, left: &[bool; MAX_TASKS]) -> Resources
+        ensures { Tracks tasks.entry.list.now (marked left.now) result }
+    {
+        let used = used_resources(tasks.list);
+        let mut all = [Usage::default(); RESOURCES];
+        for (k, kept) in all[..used].iter_mut().enumerate() {
+            *kept = usage_on(tasks, left, k);
+        }
+        Resources { used, usage: all }
     }
-    longest
-}
 
-// What is kept where these tasks are left.
-pub fn resources_at(rows: &[u64], left: [bool; MAX_TASKS]) -> Resources
-    requires { length (tasks_in rows.now) ≤ max_tasks }
-    ensures { Tracks (tasks_in rows.now) (marked left) result }
-{
-    let used = used_resources(rows);
-    let mut users = [0; RESOURCES];
-    let mut held = [0; RESOURCES];
-    let mut k = 0;
-    while k < used {
-        users[k] = users_on(rows, left, k);
-        held[k] = held_on(rows, left, k);
-        k += 1;
+    // A task left takes a level.
+    pub fn take(&mut self, tasks: Tasks<'_>, task: TaskIndex)
+        requires task_in_bounds { task.0 < length tasks.list.now }
+        requires tracks { (left : ℕ → Bool) × T (left task.0) × Tracks tasks.list.now left self.old }
+        ensures { (left : ℕ → Bool) → T (left task.0) → Tracks tasks.entry.list.now left self.old
+            → Tracks tasks.entry.list.now (without left task.0) self.new }
+    {
+        let t = &tasks.list[task.0];
+        for (k, kept) in self.usage[..self.used].iter_mut().enumerate() {
+            let section = t.section(k);
+            kept.users -= u64::from(0 < section);
+            kept.held = kept.held.max(section);
+        }
     }
-    Resources { used, users, held }
-}
 
-// And after a task left has taken a level.
-pub fn resources_after(rows: &[u64], resources: Resources, task: TaskIndex) -> Resources
-    requires task_in_bounds { task.0 < length (tasks_in rows.now) }
-    requires by_index { (left : ℕ → Bool) × T (left task.0) × Tracks (tasks_in rows.now) left resources }
-    ensures { (left : ℕ → Bool) → T (left task.0) → Tracks (tasks_in rows.now) left resources
-        → Tracks (tasks_in rows.now) (without left task.0) result }
-{
-    let used = resources.used;
-    let mut users = resources.users;
-    let mut held = resources.held;
-    let mut k = 0;
-    while k < used {
-        let section = section_in(rows, task.0, k);
-        users[k] = users[k] - when(0 < section, 1);
-        held[k] = larger(held[k], section);
-        k += 1;
+    // The longest section held on a resource that some task left uses.
+    pub fn blocking(&self) -> u64
+        requires { self.now.used ≤ resources }
+        ensures { result ≡ blocking_by self.now }
+    {
+        let mut blocking: u64 = 0;
+        for kept in &self.usage[..self.used] {
+            if 0 < kept.users {
+                blocking = blocking.max(kept.held);
+            }
+        }
+        blocking
     }
-    Resources { used, users, held }
-}
-
-// The longest section held on a resource that some task left uses.
-pub fn blocking_by(resources: Resources) -> u64
-    requires { FewUsed resources }
-    ensures { result ≡ blocking_by resources }
-{
-    let used = resources.used;
-    let users = resources.users;
-    let held = resources.held;
-    let mut blocking = 0;
-    let mut k = 0;
-    while k < used {
-        blocking = larger(blocking, when(0 < users[k], held[k]));
-        k += 1;
-    }
-    blocking
 }
 
 // The blocking of each task left, with the others that are left above it.
-pub fn level_blocking(rows: &[u64], left: [bool; MAX_TASKS]) -> u64
-    requires { length (tasks_in rows.now) ≤ max_tasks }
-    ensures { BlocksEach (tasks_in rows.now) (marked left) (marked left) result }
+#[tactic(auto, using(crate::proofs::ResourcesLaws::blocking_level))]
+pub fn level_blocking(tasks: Tasks<'_>, left: &[bool; MAX_TASKS]) -> u64
+    ensures { BlocksEach tasks.entry.list.now (marked left.now) (marked left.now) result }
 {
-    blocking_by(resources_at(rows, left))
+    Resources::at(tasks, left).blocking()
 }

@@ -1,11 +1,14 @@
 -- Tests over the numbers below a bound: all pass, the greatest that passes, how many pass.
 -- A set of numbers is a test, ℕ → Bool, of which only what lies below the bound counts. Assumes nothing.
-use Rattle.std.specs.Prelude.{◌≡◌, refl, Bool, true, false, ◌&&◌, ℕ, zero, suc, ◌+◌, ◌≤◌, ◌<◌, T, eqb, ltb}
-use Rattle.std.proofs.Common.{⊎_elim, not-suc-le-zero, le_of_suc-le-suc, eq-or-lt_of_le, le_refl, add-le-add, add-lt-add_of_le_of_lt, eq-zero-or-pos, add-one, arith, eqb→eq, ltb→lt, lt→ltb}
-use Rattle.std.proofs.Math.Option.{Option, none, some}
+use Rattle.std.specs.Prelude.{Option, None, Some}
+use Rattle.std.specs.Prelude.{◌≡◌, refl, Bool, true, false, ◌&&◌, List, ℕ, zero, suc, ◌+◌, ◌≤◌, ◌<◌, T, eqb, ltb, length, get_or}
+use Rattle.std.specs.List.{list_any}
+use Rattle.std.proofs.Common.{ap, ◌∙◌, ⊎_elim, not-suc-le-zero, le_of_suc-le-suc, eq-or-lt_of_le, le_refl, add-le-add, add-lt-add_of_le_of_lt, eq-zero-or-pos, add-one, arith, eqb→eq, ltb→lt, lt→ltb, add-zero, add-suc}
+use Rattle.std.proofs.lemmas.List.{get_or_default}
+use Rattle.std.proofs.lemmas.List.Folds.{Any-from_list_any, list_any_at}
 use Rattle.std.proofs.Math.Nat.{le_step, add-lt-add_of_lt_of_le}
 use Rattle.std.proofs.Math.Dec.{eqb_refl}
-use Rattle.sets.specs.Choice.{pick, decided, and_intro, and_left, and_right, T→true, true→T, refuted→false, false→refuted}
+use Rattle.sets.specs.Choice.{pick, decided, and_intro, and_left, and_right, same_test, T→true, true→T, refuted→false, false→refuted, and-true, and_swap}
 
 -- every number
 abbrev pub every : ℕ → Bool
@@ -49,20 +52,16 @@ unfolding all
 all_of zero p each = tt
 all_of (suc n) p each = and_intro (p n) (all n p) (each n (le_refl (suc n))) (all_of n p (λ k h. each k (le_step h)))
 
-pub all-not : (n : ℕ) (p : ℕ → Bool) (k : ℕ) → k < n → p k ≡ false → all n p ≡ false
-all-not n p k h e = refuted→false (all n p) (λ t. false→refuted (p k) e (all_at n p t k h))
-
--- a loop that counts up: nothing yet, one number more, and the whole range
-pub all_none : (p : ℕ → Bool) → T (all 0 p)
+-- equal tests, and the numbers below n and those from n on
+pub all_same : (n : ℕ) (p q : ℕ → Bool) → ((k : ℕ) → k < n → p k ≡ q k) → all n p ≡ all n q
 unfolding all
-all_none p = tt
+all_same zero p q same = refl
+all_same (suc n) p q same = rw (same n (le_refl (suc n)), all_same n p q (λ k h. same k (le_step h)))
 
-pub all_more : (i : ℕ) (p : ℕ → Bool) → T (all i p) → p i ≡ true → T (all (i + 1) p)
+pub all_split : (n m : ℕ) (p : ℕ → Bool) → all (n + m) p ≡ (all n p && all m (λ k. p (n + k)))
 unfolding all
-all_more i p t e = rw add-one (and_intro (p i) (all i p) (true→T (p i) e) t)
-
-pub all_whole : (n i : ℕ) (p : ℕ → Bool) → i ≤ n → n ≤ i → T (all i p) → all n p ≡ true
-all_whole n i p under over t = let e : i ≡ n = omega arith in T→true (all n p) (rw e at t)
+all_split n zero p = rw (add-zero n) (and-true (all n p))
+all_split n (suc m) p = rw (add-suc n m, all_split n m p) (and_swap (p (n + m)) (all n p) (all m (λ k. p (n + k))))
 
 pub all-next : (i : ℕ) (p : ℕ → Bool) → all (i + 1) p ≡ (p i && all i p)
 unfolding all
@@ -71,8 +70,8 @@ all-next i p = rw add-one
 -- ---- the greatest
 
 unfoldable pub greatest : ℕ → (ℕ → Bool) → Option ℕ
-greatest zero p = none
-greatest (suc n) p = let later = greatest n p in pick (p n) (some n) later
+greatest zero p = None
+greatest (suc n) p = let later = greatest n p in pick (p n) (Some n) later
 
 -- k is below n and passes, and nothing between them does
 pub record IsGreatest (n : ℕ) (p : ℕ → Bool) (k : ℕ) : Type 0 where
@@ -82,8 +81,8 @@ pub record IsGreatest (n : ℕ) (p : ℕ → Bool) (k : ℕ) : Type 0 where
 
 -- what `greatest` gives: the greatest that passes, or none where nothing does
 pub data Greatest (n : ℕ) (p : ℕ → Bool) : Option ℕ → Type 0 where
-  found : (k : ℕ) → IsGreatest n p k → Greatest n p (some k)
-  nothing : ((k : ℕ) → k < n → T (p k) → ⊥) → Greatest n p none
+  found : (k : ℕ) → IsGreatest n p k → Greatest n p (Some k)
+  nothing : ((k : ℕ) → k < n → T (p k) → ⊥) → Greatest n p None
 
 greater : (n : ℕ) (p : ℕ → Bool) (r : Option ℕ) → (T (p n) → ⊥) → Greatest n p r → Greatest (suc n) p r
 greater n p r not-n (found k g) =
@@ -100,12 +99,12 @@ unfolding greatest
 greatest_is zero p = nothing (λ k h. absurd (not-suc-le-zero h))
 greatest_is (suc n) p = go (p n) refl (greatest_is n p)
   where
-    go : (b : Bool) → p n ≡ b → Greatest n p (greatest n p) → Greatest (suc n) p (pick b (some n) (greatest n p))
+    go : (b : Bool) → p n ≡ b → Greatest n p (greatest n p) → Greatest (suc n) p (pick b (Some n) (greatest n p))
     go true e g = found n (record { below = le_refl (suc n); passes = true→T (p n) e; last = λ j h l. absurd (omega arith) })
     go false e g = greater n p (greatest n p) (false→refuted (p n) e) g
 
 -- a loop that counts down: one that passes, and one that doesn't
-pub greatest_at : (i : ℕ) (p : ℕ → Bool) → p i ≡ true → greatest (suc i) p ≡ some i
+pub greatest_at : (i : ℕ) (p : ℕ → Bool) → p i ≡ true → greatest (suc i) p ≡ Some i
 unfolding greatest
 greatest_at i p e = rw e
 
@@ -184,6 +183,9 @@ count_whole zero A each = refl
 count_whole (suc n) A each =
     rw (count_whole n A (λ j h. each j (le_step h)), T→true (A n) (each n (le_refl (suc n)))) (add-one n)
 
+pub count-le : (n : ℕ) (A : ℕ → Bool) → count n A ≤ n
+count-le n A = let all = count_mono n A every (λ j h t. tt) in omega (arith, all, count_whole n every (λ j h. tt))
+
 -- some pass: they number more than 0
 abbrev pub any : ℕ → (ℕ → Bool) → Bool
 any n p = ltb 0 (count n p)
@@ -210,3 +212,15 @@ any_found n p t = count-some n p (ltb→lt 0 (count n p) t)
 
 pub any_of : (n : ℕ) (p : ℕ → Bool) (k : ℕ) → k < n → T (p k) → T (any n p)
 any_of n p k h t = lt→ltb 0 (count n p) (count_pos n p k h t)
+
+-- some element of a list passes: some index has one that does
+pub list_any-any : {A : Type 0} (p : A → Bool) (xs : List A) (d : A) → list_any p xs ≡ any (length xs) (λ k. p (get_or xs k d))
+list_any-any p xs d =
+    same_test (list_any p xs) (any (length xs) at)
+    (λ t.
+    let (k, x, h, e, is) = Any-from_list_any p xs (T→true _ t) in
+    any_of (length xs) at k h (true→T _ (ap p (get_or_default xs k d x h ∙ e) ∙ is)))
+    (λ t. let (k, h, s) = any_found (length xs) at t in true→T _ (list_any_at p xs k d h (T→true _ s)))
+  where
+    at : ℕ → Bool
+    at k = p (get_or xs k d)

@@ -1,12 +1,22 @@
 -- A choice by a test, and tests as facts: `T b` says that the test b passes. Assumes nothing.
+use Rattle.std.specs.Prelude.{Option, None, Some}
 use Rattle.std.specs.Prelude.{◌≡◌, refl, Bool, true, false, not, ◌&&◌, ◌||◌, ◌⊎◌, ℕ, ◌≤◌, ◌<◌, T, ltb}
-use Rattle.std.proofs.Common.{true≢false, inl, inr, ltb-true, ltb-false}
+use Rattle.std.proofs.Common.{true≢false, inl, inr, arith, ltb-true, ltb-false}
 use Rattle.std.proofs.lemmas.Bool.{false≢true}
-use Rattle.std.proofs.Math.Option.{Option, none, some}
+use mir.Val.{bool_byte}
 
 abbrev pub pick {ℓ} : {A : Type ℓ} → Bool → A → A → A
 pick true a b = a
 pick false a b = b
+
+-- a test as a number
+pub bool_byte-pick : (b : Bool) → bool_byte b ≡ pick b 1 0
+bool_byte-pick true = refl
+bool_byte-pick false = refl
+
+pub bool_byte-le : (b : Bool) → bool_byte b ≤ 1
+bool_byte-le true = omega arith
+bool_byte-le false = omega arith
 
 -- what bounds both bounds the choice
 pub pick-le : (b : Bool) {x y n : ℕ} → x ≤ n → y ≤ n → pick b x y ≤ n
@@ -15,8 +25,8 @@ pick-le false h k = k
 
 -- a choice by whether there is a value
 abbrev pub option : {A B : Type 0} → B → (A → B) → Option A → B
-option b f none = b
-option b f (some a) = f a
+option b f None = b
+option b f (Some a) = f a
 
 -- ---- a test as an equation
 
@@ -83,6 +93,11 @@ and-true false = refl
 pub and-false : (a : Bool) → (a && false) ≡ false
 and-false true = refl
 and-false false = refl
+
+pub and_swap : (a b c : Bool) → (a && (b && c)) ≡ (b && (a && c))
+and_swap true b c = refl
+and_swap false true c = refl
+and_swap false false c = refl
 
 pub or_left : (a b : Bool) → T a → T (a || b)
 or_left true b t = tt

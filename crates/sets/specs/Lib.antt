@@ -6,5 +6,5 @@ pub mod Rank
 pub mod Pad
 pub mod Marks
 pub mod Onto
-pub mod Entries
 pub mod Flat
+pub mod Items

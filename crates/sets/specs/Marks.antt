@@ -1,11 +1,11 @@
 -- An array of marks as a set of indices. Assumes nothing.
-use Rattle.std.specs.Prelude.{◌≡◌, refl, Bool, true, false, List, [], ◌∷◌, ℕ, zero, suc, ◌+◌, ◌≤◌, ◌<◌, eqb, ltb, length, get_or, set, replicate}
-use Rattle.std.proofs.Common.{sym, ap, ◌∙◌, ⊎_elim, not-suc-le-zero, le_of_suc-le-suc, arith, ltb→lt, lt→ltb, length-set, get_or-set_same, get_or-set_other, ext_get_or, eqb-true, lt-ltb, le-ltb}
+use Rattle.std.specs.Prelude.{◌≡◌, refl, Bool, true, false, List, [], ◌∷◌, ◌++◌, take, drop, ℕ, zero, suc, ◌+◌, ◌-◌, ◌≤◌, ◌<◌, eqb, ltb, length, get_or, set, replicate}
+use Rattle.std.proofs.Common.{sym, ap, ◌∙◌, ⊎_elim, not-suc-le-zero, le_of_suc-le-suc, arith, length-append, length-drop, get_or-set_same, get_or-set_other, get_or-drop, length-take-le, ext_get_or, eqb-true, lt-ltb, le-ltb}
 use Rattle.std.proofs.Math.Path.{fun_ext}
-use Rattle.std.proofs.lemmas.List.{length-replicate, get_or-replicate}
-use Rattle.std.proofs.Math.ListN.{get_or-eq_default}
+use Rattle.std.proofs.lemmas.List.{length-replicate, get_or-replicate, get_or-append_right}
+use Rattle.std.proofs.Math.ListN.{get_or-eq_default, get_or-append}
 use Rattle.std.proofs.lemmas.Bool.{eqb-false}
-use Rattle.sets.specs.Choice.{pick, lt_or_le, same_test}
+use Rattle.sets.specs.Choice.{pick, lt_or_le}
 use Rattle.sets.specs.Bounded.{without}
 use Rattle.sets.specs.Pad.{pad, pad-length, pad_used, pad_unused, pad-rest}
 
@@ -39,21 +39,6 @@ marked-none n =
 
 pub marked_first_none : (n : ℕ) → marked (replicate n false) ≡ first 0
 marked_first_none n = marked-none n ∙ fun_ext (λ i. sym (le-ltb i 0 (omega arith)))
-
-first_next : (k j : ℕ) → pick (eqb k j) true (first k j) ≡ first (k + 1) j
-first_next k j = go (eqb k j) refl
-  where
-    go : (b : Bool) → eqb k j ≡ b → pick b true (ltb j k) ≡ ltb j (k + 1)
-    go true f = sym (lt-ltb j (k + 1) (omega (arith, eqb-true k j f)))
-    go false f =
-        let apart = eqb-false k j f in
-        same_test (ltb j k) (ltb j (k + 1)) (λ t. lt→ltb j (k + 1) (omega (arith, ltb→lt j k t)))
-        (λ t. lt→ltb j k (⊎_elim (λ l. l) (λ l. absurd (apart (omega (arith, l, ltb→lt j (k + 1) t)))) (lt_or_le j k)))
-
-pub marked-first : (marks : List Bool) (k : ℕ) → k < length marks → marked marks ≡ first k
-    → marked (set marks k true) ≡ first (k + 1)
-marked-first marks k h e =
-    fun_ext (λ j. marked_store marks k true h j ∙ ap (λ (f : ℕ → Bool). pick (eqb k j) true (f j)) e ∙ first_next k j)
 
 -- ---- the first n values of a function, as a list
 
@@ -94,37 +79,49 @@ marked_padded n m A out =
     (λ g. pad-rest n false (table m A) k (omega (arith, g, length-table m A)) ∙ sym (out k g))
     (lt_or_le k m))
 
--- an array of n entries that a loop fills: those of f below k, and what stood there from k on
-pub record FilledTo (n k : ℕ) (f g : ℕ → ℕ) (xs : List ℕ) : Type 0 where
-  pub long : length xs ≡ n
-  pub done : (q : ℕ) → q < k → get_or xs q 0 ≡ f q
-  pub rest : (q : ℕ) → k ≤ q → q < n → get_or xs q 0 ≡ g q
+-- an array of n entries whose first m a loop wrote over, where all are then those of f
+pub written-table : {A : Type 0} (n m : ℕ) (f : ℕ → A) (d : A) (front old : List A) → length front ≡ m → m ≤ n → length old ≡ n
+    → ((k : ℕ) → k < m → get_or front k d ≡ f k) → ((k : ℕ) → m ≤ k → k < n → get_or old k d ≡ f k) → front ++ drop m old ≡ table n f
+written-table n m f d front old cut few long done rest =
+    ext_get_or d (front ++ drop m old) (table n f) (whole ∙ sym (length-table n f))
+    (λ k h.
+    let inside : k < n = omega (arith, h, whole) in
+    ⊎_elim (under k) (over k inside) (lt_or_le k m) ∙ sym (get_or-table n f d k inside))
+  where
+    whole : length (front ++ drop m old) ≡ n
+    whole = omega (arith, length-append front (drop m old), length-drop m old)
 
-pub filled_none : (n : ℕ) (f : ℕ → ℕ) → FilledTo n 0 f (λ q. 0) (replicate n 0)
-filled_none n f =
-    record { long = length-replicate n 0; done = λ q h. absurd (not-suc-le-zero h); rest = λ q low high. get_or-replicate n q 0 0 high }
+    under : (k : ℕ) → k < m → get_or (front ++ drop m old) k d ≡ f k
+    under k l = get_or-append front (drop m old) d k (omega (arith, l, cut)) ∙ done k l
 
-pub filled_old : (n : ℕ) (f : ℕ → ℕ) (xs : List ℕ) → length xs ≡ n → FilledTo n 0 f (λ q. get_or xs q 0) xs
-filled_old n f xs long = record { long = long; done = λ q h. absurd (not-suc-le-zero h); rest = λ q low high. refl }
+    over : (k : ℕ) → k < n → m ≤ k → get_or (front ++ drop m old) k d ≡ f k
+    over k h g =
+        let at : m + (k - m) ≡ k = omega arith in
+        get_or-append_right front (drop m old) m k d cut g ∙ get_or-drop m old (k - m) d ∙ rw at (rest k g h)
 
-pub filled_more : {n k : ℕ} {f g : ℕ → ℕ} {xs : List ℕ} {x : ℕ} → FilledTo n k f g xs → k < n → x ≡ f k → FilledTo n (k + 1) f g (set xs k x)
-filled_more {n} {k} {f} {g} {xs} {x} s h e =
-    record {
-      long = length-set xs k x ∙ s.long;
-      done = λ q l.
-          ⊎_elim (λ under. get_or-set_other xs k q x 0 (λ same. omega (arith, under, same)) ∙ s.done q under)
-          (λ over.
-          let same : q ≡ k = omega arith in
-          rw same (get_or-set_same xs k x 0 (omega (arith, h, s.long)) ∙ e)) (lt_or_le q k);
-      rest = λ q low high. get_or-set_other xs k q x 0 (λ same. omega (arith, low, same)) ∙ s.rest q (omega arith) high;
-    }
+-- an array whose first n marks were filled
+pub marked_filled : (n all : ℕ) → n ≤ all
+    → marked (replicate (length (take n (replicate all false))) true ++ drop n (replicate all false)) ≡ first n
+marked_filled n all few = fun_ext (λ j. ⊎_elim (front j) (back j) (lt_or_le j n))
+  where
+    filled : List Bool
+    filled = replicate (length (take n (replicate all false))) true
 
--- at its end it holds what h has
-pub filled_all : {n k : ℕ} {f g : ℕ → ℕ} {xs : List ℕ} → FilledTo n k f g xs → (h : ℕ → ℕ) → ((q : ℕ) → q < n → q < k → f q ≡ h q)
-    → ((q : ℕ) → q < n → k ≤ q → g q ≡ h q) → xs ≡ table n h
-filled_all {n} {k} {f} {g} {xs} s h same old =
-    ext_get_or 0 xs (table n h) (s.long ∙ sym (length-table n h))
-    (λ q l.
-    let inside : q < n = omega (arith, l, s.long) in
-    ⊎_elim (λ under. s.done q under ∙ same q inside under) (λ over. s.rest q over inside ∙ old q inside over) (lt_or_le q k)
-    ∙ sym (get_or-table n h 0 q inside))
+    cut : length (take n (replicate all false)) ≡ n
+    cut = length-take-le n (replicate all false) (omega (arith, length-replicate all false))
+
+    long : length filled ≡ n
+    long = length-replicate (length (take n (replicate all false))) true ∙ cut
+
+    front : (j : ℕ) → j < n → marked (filled ++ drop n (replicate all false)) j ≡ ltb j n
+    front j h =
+        get_or-append filled (drop n (replicate all false)) false j (omega (arith, long))
+        ∙ get_or-replicate (length (take n (replicate all false))) j true false (omega (arith, cut))
+        ∙ sym (lt-ltb j n h)
+
+    back : (j : ℕ) → n ≤ j → marked (filled ++ drop n (replicate all false)) j ≡ ltb j n
+    back j h =
+        get_or-append_right filled (drop n (replicate all false)) n j false long h
+        ∙ get_or-drop n (replicate all false) (j - n) false
+        ∙ ap (λ (f : ℕ → Bool). f (n + (j - n))) (marked-none all)
+        ∙ sym (le-ltb j n h)

@@ -18,13 +18,6 @@ pub maximum-more : (i : ℕ) (A : ℕ → Bool) (f : ℕ → ℕ) → maximum (i
 unfolding maximum
 maximum-more i A f = rw add-one
 
-pub maximum_turn : (i : ℕ) (A : ℕ → Bool) (f : ℕ → ℕ) {m x y : ℕ} → m ≡ maximum i A f → x ≡ pick (A i) (f i) 0 → y ≡ max m x
-    → y ≡ maximum (i + 1) A f
-maximum_turn i A f e here next = rw (maximum-more i A f, ← e, ← here) next
-
-pub maximum_whole : (n i : ℕ) (A : ℕ → Bool) (f : ℕ → ℕ) {m : ℕ} → i ≤ n → n ≤ i → m ≡ maximum i A f → m ≡ maximum n A f
-maximum_whole n i A f under over e = let h : i ≡ n = omega arith in rw h at e
-
 -- ---- it bounds every value of the set, and is one of them or 0
 
 pub maximum_at : (n : ℕ) (A : ℕ → Bool) (f : ℕ → ℕ) (k : ℕ) → k < n → T (A k) → f k ≤ maximum n A f

@@ -1,17 +1,10 @@
 -- Bytes written into the front of a buffer, and more of them into the rest of it. Assumes nothing.
 use Rattle.std.specs.Prelude.{◌≡◌, refl, List, [], ◌∷◌, ◌++◌, ℕ, suc, ◌+◌, ◌-◌, ◌≤◌, ◌<◌, length, take, drop, set}
 use Rattle.std.proofs.Common.{sym, ap, ◌∙◌, append_assoc, append-nil, arith, length-append, length-drop, length-set, drop_of_length-le, take_all, take_at, drop_at, drop-cons, drop-drop, drop-set-lt, get_or-set_same}
-use Rattle.std.proofs.Math.Seq.{take-append_seam}
 
 -- the bytes, and then what stood after their places
 abbrev pub onto : List ℕ → List ℕ → List ℕ
 onto bytes buffer = bytes ++ drop (length bytes) buffer
-
--- as many as were written stand in front
-pub front_count : (bytes buffer xs : List ℕ) (n : ℕ) → n ≡ length bytes → xs ≡ onto bytes buffer
-    → (n ≤ length xs) × (n ≡ length (take n xs))
-front_count bytes buffer xs n e f =
-    rw (f, e) (simp length-append (omega arith), ap length (sym (take-append_seam bytes (drop (length bytes) buffer))))
 
 -- more, into the rest of the buffer
 pub onto-more : (xs ys buffer : List ℕ) → xs ++ onto ys (drop (length xs) buffer) ≡ onto (xs ++ ys) buffer
@@ -40,15 +33,6 @@ pub front_as : {bytes same buffer xs : List ℕ} {at : ℕ} → bytes ≡ same �
 front_as e f = rw (← e) f
 
 module _ {bytes buffer xs : List ℕ} {at : ℕ} (f : Front bytes buffer at xs) where
-  -- they lie inside
-  pub front_in : at ≤ length xs
-  front_in = omega (arith, ap length f.list, length-append bytes (drop (length bytes) buffer))
-
-  -- and the buffer is as long as it was
-  pub front_length : length bytes ≤ length buffer → length xs ≡ length buffer
-  front_length h =
-      omega (arith, ap length f.list, length-append bytes (drop (length bytes) buffer), length-drop (length bytes) buffer)
-
   -- a lent tail is what stands there in the buffer
   tail_kept : tail_of at xs ≡ drop (length bytes) buffer
   tail_kept =

@@ -1,26 +1,16 @@
-// Definitions and laws in specs/, and two functions that go with them.
+// Definitions and laws in specs/, and a function that goes with them.
 
 #![tactic(auto)]
 
-ghost use Rattle.std.specs.Prelude.{◌≡◌, max};
-ghost use Rattle.sets.specs.Choice.{pick};
+ghost use Rattle.std.specs.Prelude.{◌≡◌, ◌≤◌};
+ghost use Rattle.sets.specs.Marks.{first, marked};
 
-// The larger of two numbers.
-pub fn larger(a: u64, b: u64) -> u64
-    ensures { result ≡ max a b }
+// The first n of N marks.
+pub fn first<const N: usize>(n: usize) -> [bool; N]
+    requires { n ≤ N }
+    ensures { marked result ≡ first n }
 {
-    if a < b {
-        return b;
-    }
-    a
-}
-
-// The number where the test passes, else 0.
-pub fn when(test: bool, x: u64) -> u64
-    ensures { result ≡ pick test x 0 }
-{
-    if test {
-        return x;
-    }
-    0
+    let mut marks = [false; N];
+    marks[..n].fill(true);
+    marks
 }

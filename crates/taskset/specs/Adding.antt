@@ -1,16 +1,19 @@
 -- Document 01, "Calls on a sheet" and refusal 14: the task set that holds two lists, adding to it, and lists of adding calls.
 -- Assumes nothing.
-use Rattle.std.specs.Prelude.{◌≡◌, Bool, ◌&&◌, List, [], ◌∷◌, ℕ, leb, ltb, eqb, length, get_or, take}
+use Rattle.std.specs.Prelude.{◌≡◌, Bool, ◌&&◌, List, [], ◌∷◌, ℕ, leb, ltb, eqb, nat_eq, length, get_or, take, replicate, Result, Err, is_ok}
+use Rattle.std.specs.Cmp.Lexicographic.{pointwise}
 use Rattle.sets.specs.Choice.{pick}
 use Rattle.sets.specs.Bounded.{all}
 use Rattle.sets.specs.Pad.{pad}
+use Rattle.taskset.specs.declared.refusals.Refusal.{Refusal}
+use Rattle.taskset.specs.declared.refusals.Refusal.TheVariants.{NotMade}
 use Rattle.taskset.specs.declared.Task.{Task}
 use Rattle.taskset.specs.declared.Rule.{Rule}
 use Rattle.taskset.specs.declared.TaskSet.{TaskSet}
 use Rattle.taskset.specs.declared.Call.{Call}
 use Rattle.taskset.specs.declared.Call.TheVariants.{AddTask, AddRule}
 use Rattle.taskset.specs.declared.Added.{Added}
-use Rattle.taskset.specs.Refusals.{max_tasks, max_rules, uses_none, entry_fits}
+use Rattle.taskset.specs.Refusals.{max_tasks, max_rules, resources, entry_fits}
 use Rattle.taskset.specs.Model.{Lists, no_lists, refusal_of, extended, blank_task, blank_rule}
 
 -- the set that holds these lists: unused entries are all zeros
@@ -32,8 +35,10 @@ fresh_set = holding no_lists
 
 -- ---- refusal 14
 
+-- all zeros, and a section for each resource
 abbrev pub is_blank_task : Task → Bool
-is_blank_task t = eqb t.period 0 && eqb t.execution 0 && eqb t.deadline 0 && eqb t.jitter 0 && uses_none t
+is_blank_task t =
+    eqb t.period 0 && eqb t.execution 0 && eqb t.deadline 0 && eqb t.jitter 0 && pointwise nat_eq t.sections (replicate resources 0)
 
 abbrev pub is_blank_rule : Rule → Bool
 is_blank_rule r = eqb r.higher.0 0 && eqb r.lower.0 0
@@ -59,13 +64,13 @@ is_made s =
 
 -- ---- a call, and lists of calls
 
--- refused: the number, and the set as it was; taken: 0, and the set that holds the longer lists
-abbrev pub answering : TaskSet → ℕ → TaskSet → Added
-answering s k new = record { refusal = k; set = pick (eqb k 0) new s }
+-- refused: why, and the set as it was; taken: the set that holds the longer lists
+abbrev pub answering : TaskSet → Result (Unit {0}) Refusal → TaskSet → Added
+answering s r new = record { answer = r; set = pick (is_ok r) new s }
 
 -- 14 first, then the refusal of the call
 unfoldable pub add : TaskSet → Call → Added
-add s c = answering s (pick (is_made s) (refusal_of (lists s) c) 14) (holding (extended (lists s) c))
+add s c = answering s (pick (is_made s) (refusal_of (lists s) c) (Err NotMade)) (holding (extended (lists s) c))
 
 -- each call is handed the set that the one before handed back, after a refusal too
 unfoldable pub run : TaskSet → List Call → TaskSet

@@ -1,10 +1,12 @@
 -- Laws of an adding call as the code makes it, one for each way it ends. Assumes nothing.
-use Rattle.std.specs.Prelude.{◌≡◌, true, false, [], ◌∷◌, ℕ, ◌+◌, length}
-use Rattle.std.proofs.Math.Path.{sym}
-use Rattle.std.proofs.Common.{ap, ◌∙◌, length-append}
+use Rattle.std.specs.Prelude.{◌≡◌, true, false, [], ◌∷◌, ℕ, ◌+◌, ◌<◌, length, Ok, Err}
+use Rattle.std.proofs.Common.{sym, ap, ◌∙◌, length-append}
 use Rattle.std.proofs.Math.ListN.{set}
-use borrow.Author.Tests.{ne_eqb}
 use Rattle.sets.specs.Pad.{set-pad}
+use Rattle.taskset.specs.declared.refusals.Refusal.{Refusal}
+use Rattle.taskset.specs.declared.refusals.Refusal.TheVariants.{NotMade}
+use Rattle.taskset.specs.declared.Task.{Task}
+use Rattle.taskset.specs.declared.Rule.{Rule}
 use Rattle.taskset.specs.declared.TaskSet.{TaskSet}
 use Rattle.taskset.specs.declared.Call.{Call}
 use Rattle.taskset.specs.declared.Call.TheVariants.{AddTask, AddRule}
@@ -26,34 +28,39 @@ stored-holding : (l : Lists) (c : Call) → Room (length l.tasks) (length l.rule
 stored-holding l (AddTask t) h = rw (set-pad max_tasks blank_task l.tasks t h, length-append l.tasks (t ∷ []))
 stored-holding l (AddRule r) h = rw (set-pad max_rules blank_rule l.rules r h, length-append l.rules (r ∷ []))
 
-pub add_14 : (s : TaskSet) (c : Call) → is_made s ≡ false → record { refusal = 14; set = s } ≡ add s c
+-- by whether the set passes the check
+pub add_14 : (s : TaskSet) (c : Call) → is_made s ≡ false → record { answer = Err NotMade; set = s } ≡ add s c
 unfolding add
 add_14 s c e = rw e
 
--- a call on a set that passes the check, and the refusal that the code finds by the counts
-pub record Checked (s : TaskSet) (c : Call) (k : ℕ) : Type 0 where
-  pub size : Sized s
-  pub made : is_made s ≡ true
-  pub refusal : k ≡ refusal_by s.ntasks s.nrules c
+pub add_answer : (s : TaskSet) (c : Call) → is_made s ≡ true → (add s c).answer ≡ refusal_of (lists s) c
+unfolding add
+add_answer s c e = rw e
 
-module _ {s : TaskSet} {c : Call} {k : ℕ} (a : Checked s c k) where
-  by_lists : k ≡ refusal_of (lists s) c
-  by_lists =
-      let p = passed s a.size a.made in
-      rw (p.ntasks, p.nrules) a.refusal
+pub ruleset adding = (add_14, add_answer)
 
-  pub add-refused : (k ≡ 0 → ⊥) → record { refusal = k; set = s } ≡ add s c
+-- there is room for what is taken
+pub task_room : (n m : ℕ) (t : Task) → refusal_by n m (AddTask t) ≡ Ok tt → n < max_tasks
+task_room n m t e = ((taken_exactly n m (AddTask t)).0 e).1
+
+pub rule_room : (n m : ℕ) (r : Rule) → refusal_by n m (AddRule r) ≡ Ok tt → m < max_rules
+rule_room n m r e = ((taken_exactly n m (AddRule r)).0 e).1
+
+-- a call on a set that passes the check, by what the code finds by the counts
+module _ (s : TaskSet) (c : Call) (size : Sized s) (made : is_made s ≡ true) where
+  pub by_lists : refusal_of (lists s) c ≡ refusal_by s.ntasks s.nrules c
+  by_lists = let p = passed s size made in rw (p.ntasks, p.nrules)
+
+  pub add_refused : (r : Refusal) → refusal_by s.ntasks s.nrules c ≡ Err r → (add s c).set ≡ s
   unfolding add
-  add-refused nonzero = rw (a.made, ← by_lists, ne_eqb k 0 nonzero)
+  add_refused r e = rw (made, by_lists ∙ e)
 
-  pub add_room : k ≡ 0 → Room s.ntasks s.nrules c
-  add_room z = ((taken_exactly s.ntasks s.nrules c).0 (sym a.refusal ∙ z)).1
-
-  pub add_taken : k ≡ 0 → {d : Call} → c ≡ d → record { refusal = 0; set = stored s d } ≡ add s c
+  pub add_taken : refusal_by s.ntasks s.nrules c ≡ Ok tt → (add s c).set ≡ stored s c
   unfolding add
-  add_taken z same =
-      let p = passed s a.size a.made in
-      let room = ((taken_exactly (length (lists s).tasks) (length (lists s).rules) c).0 (sym by_lists ∙ z)).1 in
-      rw (← same, a.made, sym by_lists ∙ z)
-      (ap (λ (t : TaskSet). record { refusal = 0; set = t })
-      (ap (λ (t : TaskSet). stored t c) (sym p.holds) ∙ stored-holding (lists s) c room))
+  add_taken e =
+      let p = passed s size made in
+      let z = by_lists ∙ e in
+      let room = ((taken_exactly (length (lists s).tasks) (length (lists s).rules) c).0 z).1 in
+      rw (made, z) (sym (stored-holding (lists s) c room) ∙ ap (λ (t : TaskSet). stored t c) p.holds)
+
+pub ruleset hearing = (by_lists, add_refused, add_taken, task_room, rule_room)

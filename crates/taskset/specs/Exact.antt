@@ -1,6 +1,6 @@
 -- Refusal 14 is exact: the check passes just the sets that calls make. Assumes nothing.
 use Rattle.std.specs.Prelude.{◌≡◌, refl, Bool, true, List, [], ◌∷◌, ◌++◌, map, ◌↔◌, ℕ, suc, ◌+◌, ◌≤◌, ◌<◌, length}
-use Rattle.std.proofs.Common.{sym, ap, ◌∙◌, append-nil, suc-le-suc, zero-lt-suc, arith, length-append, eq-eqb}
+use Rattle.std.proofs.Common.{sym, ap, ◌∙◌, append-nil, suc-le-suc, zero-lt-suc, arith, length-append}
 use Rattle.std.proofs.Math.Seq.{append_snoc}
 use Rattle.taskset.specs.declared.Task.{Task}
 use Rattle.taskset.specs.declared.Rule.{Rule}
@@ -8,7 +8,7 @@ use Rattle.taskset.specs.declared.TaskSet.{TaskSet}
 use Rattle.taskset.specs.declared.Call.{Call}
 use Rattle.taskset.specs.declared.Call.TheVariants.{AddTask, AddRule}
 use Rattle.taskset.specs.Refusals.{max_tasks, max_rules, InRanges, Between, Acceptable, Room}
-use Rattle.taskset.specs.Model.{Lists, no_lists, refusal_of, extended, hear, heard, task_at, rule_at, Sound}
+use Rattle.taskset.specs.Model.{Lists, no_lists, extended, hear, heard, task_at, rule_at, Sound}
 use Rattle.taskset.specs.Adding.{holding, lists, fresh_set, is_made, add, run, Made}
 use Rattle.taskset.specs.RefusalLaws.{taken_exactly}
 use Rattle.taskset.specs.Holding.{none_sound, heard_sound, sound_made, run-holding}
@@ -29,8 +29,7 @@ made_passes s m = let h = made_holding s m in ap is_made h.2 ∙ sound_made h.0 
 hear_taken : (l : Lists) (c : Call) → Acceptable (length l.tasks) c → Room (length l.tasks) (length l.rules) c
     → hear l c ≡ extended l c
 unfolding hear
-hear_taken l c ok room =
-    rw (eq-eqb (refusal_of l c) 0 ((taken_exactly (length l.tasks) (length l.rules) c).1 (ok, room)))
+hear_taken l c ok room = rw ((taken_exactly (length l.tasks) (length l.rules) c).1 (ok, room))
 
 hear_tasks : (ts : List Task) (l : Lists) (cs : List Call) → length l.tasks + length ts ≤ max_tasks
     → ((i : ℕ) → i < length ts → InRanges (task_at ts i))

@@ -1,17 +1,18 @@
 -- The set that calls make holds the reference model's lists, entry for entry, and the check of 14 passes it.
 -- Assumes nothing.
-use Rattle.std.specs.Prelude.{◌≡◌, refl, Bool, true, false, List, [], ◌∷◌, ◌++◌, ℕ, zero, suc, ◌<◌, T, ltb, eqb, length, get_or}
+use Rattle.std.specs.Prelude.{◌≡◌, refl, Bool, true, false, List, [], ◌∷◌, ◌++◌, ℕ, ◌<◌, T, ltb, length, get_or, Result, Ok, Err, is_ok}
 use Rattle.std.proofs.Common.{ap, add-one, arith, length-append, le-leb, ltb-true, ltb-false}
-use Rattle.std.proofs.Math.Dec.{eqb-suc-zero}
 use Rattle.std.proofs.Math.ListN.{get_or-append}
 use Rattle.std.proofs.Math.Seq.{get_or-append_seam}
+use Rattle.std.proofs.lemmas.List.{get_or_default}
 use Rattle.sets.specs.Choice.{pick, T→true}
 use Rattle.sets.specs.Bounded.{all, all_of, below_suc}
 use Rattle.sets.specs.Pad.{pad, take-pad, pad_used, pad_unused}
+use Rattle.taskset.specs.declared.refusals.Refusal.{Refusal}
 use Rattle.taskset.specs.declared.Call.{Call}
 use Rattle.taskset.specs.declared.Call.TheVariants.{AddTask, AddRule}
-use Rattle.taskset.specs.Refusals.{max_tasks, max_rules, section_on, uses_none, InRanges, Between, Acceptable, Room}
-use Rattle.taskset.specs.Model.{Lists, no_lists, refusal_of, extended, hear, heard, blank_task, blank_rule, Sound}
+use Rattle.taskset.specs.Refusals.{max_tasks, max_rules, InRanges, Between, Acceptable, Room}
+use Rattle.taskset.specs.Model.{Lists, no_lists, refusal_of, extended, hear, heard, blank_task, blank_rule, no_task, Sound}
 use Rattle.taskset.specs.Adding.{holding, lists, task_fits, rule_fits, entry, is_made, answering, add, run}
 use Rattle.taskset.specs.RefusalLaws.{taken_exactly, fits_exactly}
 
@@ -42,7 +43,7 @@ extended_sound : (l : Lists) → Sound l → (c : Call) → Acceptable (length l
 extended_sound l s (AddTask t) ok room =
     let longer = length-append l.tasks (t ∷ []) in
     record {
-      tasks = record { few = omega arith; each = each_more InRanges blank_task l.tasks t s.tasks.each ok };
+      tasks = record { few = omega arith; each = each_more InRanges no_task l.tasks t s.tasks.each ok };
       few_rules = s.few_rules;
       indices = λ k h. let b = s.indices k h in record { apart = b.apart; higher = omega arith; lower = omega arith };
     }
@@ -55,13 +56,13 @@ extended_sound l s (AddRule r) ok room =
     }
 
 -- a taken call
-pub taken_sound : (l : Lists) → Sound l → (c : Call) → refusal_of l c ≡ 0 → Sound (extended l c)
+pub taken_sound : (l : Lists) → Sound l → (c : Call) → refusal_of l c ≡ Ok tt → Sound (extended l c)
 taken_sound l s c e = let ok = (taken_exactly (length l.tasks) (length l.rules) c).0 e in extended_sound l s c ok.0 ok.1
 
--- by whether a refusal is 0
-by_refusal : (P : Bool → Type 0) (k : ℕ) → (k ≡ 0 → P true) → P false → P (eqb k 0)
-by_refusal P zero taken refused = taken refl
-by_refusal P (suc k) taken refused = rw (eqb-suc-zero k) refused
+-- by whether a call is taken
+by_refusal : (P : Bool → Type 0) (r : Result (Unit {0}) Refusal) → (r ≡ Ok tt → P true) → P false → P (is_ok r)
+by_refusal P (Ok u) taken refused = taken refl
+by_refusal P (Err r) taken refused = refused
 
 hear_sound : (l : Lists) → Sound l → (c : Call) → Sound (hear l c)
 unfolding hear
@@ -85,11 +86,6 @@ entries fits n d xs unused used =
     go k h true e = let under = ltb-true k (length xs) e in rw (pad_used n d xs k under) (used k under)
     go k h false e = rw (pad_unused n d xs k (ltb-false k (length xs) e) h) unused
 
--- a blank row has no sections
-blank_uses_none : uses_none blank_task ≡ true
-unfolding uses_none section_on all
-blank_uses_none = refl
-
 pub sound_made : (l : Lists) → Sound l → is_made (holding l) ≡ true
 unfolding is_made task_fits rule_fits
 sound_made l s =
@@ -98,7 +94,8 @@ sound_made l s =
     rw (
       le-leb n max_tasks s.tasks.few,
       le-leb m max_rules s.few_rules,
-      entries (task_fits n m) max_tasks blank_task l.tasks (rw blank_uses_none tt) (λ i h. (fits_exactly n m (AddTask _)).1 (s.tasks.each i h)),
+      entries (task_fits n m) max_tasks blank_task l.tasks tt
+          (λ i h. rw (get_or_default l.tasks i blank_task no_task h) ((fits_exactly n m (AddTask _)).1 (s.tasks.each i h))),
       entries (rule_fits n m) max_rules blank_rule l.rules tt (λ k h. (fits_exactly n m (AddRule _)).1 (s.indices k h)),
     )
 

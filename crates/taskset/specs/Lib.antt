@@ -1,10 +1,11 @@
+pub mod Numbering
 pub mod Refusals
 pub mod Model
 pub mod Adding
-pub mod Words
+pub mod Numbers
+pub mod Views
 pub mod RefusalLaws
 pub mod Holding
 pub mod Passing
 pub mod Exact
 pub mod AddingLaws
-pub mod WordsLaws

@@ -1,40 +1,33 @@
 -- What the check of 14 looked at: a set that it passes holds its lists, and adding has taken them. Assumes nothing.
-use Rattle.std.specs.Prelude.{◌≡◌, refl, Bool, true, false, ◌&&◌, List, map, ℕ, ◌≤◌, ◌<◌, T, leb, ltb, length, get_or, take}
+use Rattle.std.specs.Prelude.{◌≡◌, refl, Bool, true, false, ◌&&◌, List, ℕ, ◌≤◌, ◌<◌, T, leb, ltb, length, get_or, replicate, take, nat_eq}
 use Rattle.std.proofs.Common.{sym, ◌∙◌, arith, eqb→eq, leb→le, length-take-le, get_or-take, ext_get_or, lt-ltb, ltb-true, ltb-false}
-use Rattle.std.proofs.lemmas.List.{length-map}
-use Rattle.sets.specs.Choice.{true→T, and_left, and_right}
+use Rattle.std.specs.Cmp.Lexicographic.{pointwise, same_text}
+use Rattle.std.proofs.lemmas.List.{get_or_default}
+use Rattle.sets.specs.Choice.{T→true, true→T, and_left, and_right}
 use Rattle.sets.specs.Bounded.{all, all_at}
 use Rattle.sets.specs.Pad.{pad, pad-length, pad_used, pad_unused}
 use Rattle.taskset.specs.declared.Task.{Task}
 use Rattle.taskset.specs.declared.Rule.{Rule}
 use Rattle.taskset.specs.declared.TaskSet.{TaskSet}
 use Rattle.taskset.specs.declared.Call.TheVariants.{AddTask, AddRule}
-use Rattle.taskset.specs.Refusals.{max_tasks, max_rules, section_on, uses_none, InRanges, Between}
-use Rattle.taskset.specs.Model.{blank_task, blank_rule, Sound}
+use Rattle.taskset.specs.Refusals.{max_tasks, max_rules, resources, InRanges, Between}
+use Rattle.taskset.specs.Model.{blank_task, blank_rule, no_task, Sound}
 use Rattle.taskset.specs.Adding.{holding, lists, task_fits, rule_fits, entry, is_made}
-use Rattle.taskset.specs.RefusalLaws.{fits_exactly, sections_same, none_used}
+use Rattle.taskset.specs.RefusalLaws.{fits_exactly}
 
 -- a value of the code's type has arrays of these sizes
 abbrev pub Sized : TaskSet → Type 0
 Sized s = (length s.tasks ≡ max_tasks) × (length s.rules ≡ max_rules)
 
--- as the sizes are told of a parameter in the code
-pub sized_by : {A B : Type 0} (f : Task → A) (g : Rule → B) (s : TaskSet) → length (map f s.tasks) ≡ max_tasks
-    → length (map g s.rules) ≡ max_rules → Sized s
-sized_by f g s t r = (sym (length-map s.tasks f) ∙ t, sym (length-map s.rules g) ∙ r)
-
 -- ---- entries
-
-blank_sections : (t : Task) → T (uses_none t) → t.sections ≡ blank_task.sections
-unfolding section_on
-blank_sections t h = sections_same (section_on t) (λ k. 0) (none_used t h)
 
 blank_task_lem : (n m : ℕ) (t : Task) → T (task_fits n m false t) → t ≡ blank_task
 unfolding task_fits
 blank_task_lem n m t h =
-    let (p, c, d, j, none) : (t.period ≡ 0) × (t.execution ≡ 0) × (t.deadline ≡ 0) × (t.jitter ≡ 0) × T (uses_none t) =
+    let (p, c, d, j, same) :
+    (t.period ≡ 0) × (t.execution ≡ 0) × (t.deadline ≡ 0) × (t.jitter ≡ 0) × T (pointwise nat_eq t.sections (replicate resources 0)) =
     search (and_left, and_right, eqb→eq) in
-    let s = blank_sections t none in
+    let s = same_text t.sections (replicate resources 0) (sym (T→true _ same)) in
     λ i. record { period = p i; execution = c i; deadline = d i; jitter = j i; sections = s i }
 
 blank_rule_lem : (n m : ℕ) (r : Rule) → T (rule_fits n m false r) → r ≡ blank_rule
@@ -113,7 +106,7 @@ passed s size e =
       holds = λ i. record { tasks = ts.padded i; ntasks = ts.long i; rules = rs.padded i; nrules = rs.long i };
       sound =
           record {
-            tasks = record { few = omega (arith, ts.long, few-tasks); each = λ i h. used_task n m _ (ts.fit i h) };
+            tasks = record { few = omega (arith, ts.long, few-tasks); each = λ i h. rw (get_or_default (take n s.tasks) i no_task blank_task h) (used_task n m _ (ts.fit i h)) };
             few_rules = omega (arith, rs.long, few_rules);
             indices = λ k h. rw ts.long (used_rule n m _ (rs.fit k h));
           };

@@ -1,38 +1,60 @@
 -- Laws of the refusals: a call is taken exactly when its entry is acceptable and its list has room, and the check of 14 counts
 -- the entry alone. Assumes nothing.
-use Rattle.std.specs.Prelude.{◌≡◌, refl, Bool, true, false, ◌↔◌, List, [], ◌∷◌, ◌++◌, ℕ, zero, suc, ◌-◌, ◌≤◌, ◌<◌, T, ltb, leb, eqb}
-use Rattle.std.proofs.Common.{sym, ◌∙◌, suc-ne-zero, le_trans, arith, ltb→lt, leb→le, eqb→eq}
+use Rattle.std.specs.Prelude.{◌≡◌, refl, Bool, true, false, ◌↔◌, List, [], ◌∷◌, ◌++◌, ℕ, ◌-◌, ◌≤◌, ◌<◌, T, max, ltb, leb, eqb, length, fold, Result, Ok, Err, is_ok}
+use Rattle.std.specs.Result.{result_and}
+use Rattle.std.proofs.Common.{le_trans, arith, eqb→eq}
 use mathlib.Core.Logic.Iff
-use borrow.Author.Tests.{ltb-false, leb-false, eqb-false, le-ltb, le-leb, lt-leb, ne_eqb, eq-eqb}
-use Rattle.sets.specs.Choice.{pick, pick-le, true→T, or_false_left, or_false_right}
+use borrow.Author.Tests.{ltb-false, leb-false, eqb-false, le-ltb, lt-leb, ne_eqb}
+use Rattle.sets.specs.Choice.{pick, or_false_left, or_false_right}
 use Rattle.sets.specs.Bounded.{every, all_at}
 use Rattle.sets.specs.Maximum.{maximum_at, maximum-le}
+use Rattle.sets.specs.Items.{maximum-items}
+use Rattle.taskset.specs.declared.refusals.Refusal.{Refusal}
+use Rattle.taskset.specs.declared.refusals.Refusal.TheVariants.{Period, Execution, Deadline, Jitter, Section, SameTask, BadLine, LongText, ShortBuffer, FullTasks, NoSuchTask, FullRules, NoTasks, NotMade}
 use Rattle.taskset.specs.declared.Task.{Task}
 use Rattle.taskset.specs.declared.Rule.{Rule}
 use Rattle.taskset.specs.declared.Call.{Call}
 use Rattle.taskset.specs.declared.Call.TheVariants.{AddTask, AddRule}
+use Rattle.taskset.specs.Numbering.{number}
 use Rattle.taskset.specs.Refusals.{max_tasks, max_rules, max_period, InRanges, Between, Acceptable, Room}
-use Rattle.taskset.specs.Refusals.{resources, sections_by, section_on, longest_section, uses_none}
-use Rattle.taskset.specs.Refusals.{Refusal, full_by, first_of, outside, row_refusals, index_refusals}
-use Rattle.taskset.specs.Refusals.{refusals, refusal_by, entry_fits}
+use Rattle.taskset.specs.Refusals.{resources, section_on, longest_section, uses_none}
+use Rattle.taskset.specs.Refusals.{Condition, full_by, first_of, outside, row_refusals, index_refusals, refusal_by, entry_fits}
+
+-- a refusal's number is a small one
+pub number_small : (r : Refusal) → number r ≤ 14
+number_small Period = omega arith
+number_small Execution = omega arith
+number_small Deadline = omega arith
+number_small Jitter = omega arith
+number_small Section = omega arith
+number_small SameTask = omega arith
+number_small BadLine = omega arith
+number_small LongText = omega arith
+number_small ShortBuffer = omega arith
+number_small FullTasks = omega arith
+number_small NoSuchTask = omega arith
+number_small FullRules = omega arith
+number_small NoTasks = omega arith
+number_small NotMade = omega arith
+
+-- a test says that a call is taken
+pub ok_exactly : (r : Result (Unit {0}) Refusal) → T (is_ok r) ↔ (r ≡ Ok tt)
+ok_exactly (Ok u) = (λ h. refl, λ e. tt)
+ok_exactly (Err r) = (λ h. absurd h, λ e. cc)
 
 -- ---- a list of refusals of which none applies
 
--- every refusal has a number above 0
-abbrev Numbered : List Refusal → Type 0
-Numbered [] = Unit {0}
-Numbered (r ∷ rs) = T (ltb 0 r.number) × Numbered rs
-
-abbrev NoneApplies : List Refusal → Type 0
+abbrev NoneApplies : List Condition → Type 0
 NoneApplies [] = Unit {0}
 NoneApplies (r ∷ rs) = (r.applies ≡ false) × NoneApplies rs
 
-none_applies : (rs : List Refusal) → Numbered rs → first_of rs ≡ 0 → NoneApplies rs
-none_applies [] h e = tt
-none_applies (r ∷ rs) h e = go r.applies (none_applies rs h.1) e
+none_applies : (rs : List Condition) → first_of rs ≡ Ok tt → NoneApplies rs
+none_applies [] e = tt
+none_applies (r ∷ rs) e = go r.applies (none_applies rs) e
   where
-    go : (b : Bool) → (first_of rs ≡ 0 → NoneApplies rs) → pick b r.number (first_of rs) ≡ 0 → (b ≡ false) × NoneApplies rs
-    go true rest e = absurd (omega (arith, ltb→lt 0 r.number h.0))
+    go : (b : Bool) → (first_of rs ≡ Ok tt → NoneApplies rs) → pick b (Err r.refusal) (first_of rs) ≡ Ok tt
+        → (b ≡ false) × NoneApplies rs
+    go true rest e = absurd (cc)
     go false rest e = (refl, rest e)
 
 -- ---- an entry that meets none, and the other way round
@@ -43,19 +65,10 @@ inside low high x = (
   λ h. rw (le-ltb x low h.0, le-ltb high x h.1),
 )
 
--- equal lengths are equal sections
-pub sections_same : (f g : ℕ → ℕ) → ((k : ℕ) → k < resources → f k ≡ g k) → sections_by f ≡ sections_by g
-sections_same f g same i =
-    record {
-      r0 = same 0 (omega arith) i;
-      r1 = same 1 (omega arith) i;
-      r2 = same 2 (omega arith) i;
-      r3 = same 3 (omega arith) i;
-      r4 = same 4 (omega arith) i;
-      r5 = same 5 (omega arith) i;
-      r6 = same 6 (omega arith) i;
-      r7 = same 7 (omega arith) i;
-    }
+-- the longest of a row that has a section on each resource
+pub longest_of : (t : Task) → length t.sections ≡ resources → longest_section t ≡ fold max 0 t.sections
+unfolding longest_section section_on
+longest_of t long = rw (← long) (maximum-items t.sections)
 
 -- no section is longer than c exactly when the longest is not
 pub longest_exactly : (t : Task) (c : ℕ) → (longest_section t ≤ c) ↔ ((k : ℕ) → k < resources → section_on t k ≤ c)
@@ -70,15 +83,11 @@ pub none_used : (t : Task) → T (uses_none t) → (k : ℕ) → k < resources �
 unfolding uses_none
 none_used t h k known = eqb→eq (section_on t k) 0 (all_at resources (λ q. eqb (section_on t q) 0) h k known)
 
-row_numbered : (t : Task) → Numbered (row_refusals t)
-unfolding row_refusals
-row_numbered t = (tt, (tt, (tt, (tt, (tt, tt)))))
-
-row_exactly : (t : Task) → (first_of (row_refusals t) ≡ 0) ↔ InRanges t
+row_exactly : (t : Task) → (first_of (row_refusals t) ≡ Ok tt) ↔ InRanges t
 unfolding row_refusals
 row_exactly t = (
   λ e.
-      let (p, (c, (d, (j, (b, _))))) = none_applies (row_refusals t) (row_numbered t) e in
+      let (p, (c, (d, (j, (b, _))))) = none_applies (row_refusals t) e in
       let period = (inside 1 max_period t.period).0 p in
       let jitter = (inside 0 (t.period - 1) t.jitter).0 j in
       record {
@@ -98,15 +107,11 @@ row_exactly t = (
       ),
 )
 
-index_numbered : (n : ℕ) (r : Rule) → Numbered (index_refusals n r)
-unfolding index_refusals
-index_numbered n r = (tt, (tt, tt))
-
-index_exactly : (n : ℕ) (r : Rule) → (first_of (index_refusals n r) ≡ 0) ↔ Between n r
+index_exactly : (n : ℕ) (r : Rule) → (first_of (index_refusals n r) ≡ Ok tt) ↔ Between n r
 unfolding index_refusals
 index_exactly n r = (
   λ e.
-      let (same, (missing, _)) = none_applies (index_refusals n r) (index_numbered n r) e in
+      let (same, (missing, _)) = none_applies (index_refusals n r) e in
       record {
         apart = eqb-false _ _ same;
         higher = leb-false n _ (or_false_left (leb n r.higher.0) (leb n r.lower.0) missing);
@@ -117,107 +122,64 @@ index_exactly n r = (
 
 -- ---- one list of refusals after another
 
-first-append : (rs qs : List Refusal) → Numbered rs → first_of (rs ++ qs) ≡ pick (eqb (first_of rs) 0) (first_of qs) (first_of rs)
-first-append [] qs h = refl
-first-append (r ∷ rs) qs h = go r.applies (first-append rs qs h.1)
+first-append : (rs qs : List Condition) → first_of (rs ++ qs) ≡ result_and (first_of rs) (first_of qs)
+first-append [] qs = refl
+first-append (r ∷ rs) qs = go r.applies (first-append rs qs)
   where
-    go : (b : Bool) → first_of (rs ++ qs) ≡ pick (eqb (first_of rs) 0) (first_of qs) (first_of rs)
-        → let first = pick b r.number (first_of rs) in
-        pick b r.number (first_of (rs ++ qs)) ≡ pick (eqb first 0) (first_of qs) first
-    go true e = let l = ltb→lt 0 r.number h.0 in rw (ne_eqb r.number 0 (λ z. omega arith))
+    go : (b : Bool) → first_of (rs ++ qs) ≡ result_and (first_of rs) (first_of qs)
+        → pick b (Err r.refusal) (first_of (rs ++ qs)) ≡ result_and (pick b (Err r.refusal) (first_of rs)) (first_of qs)
+    go true e = refl
     go false e = e
 
 -- none applies exactly when none of either list does
-append_exactly : (rs qs : List Refusal) → Numbered rs → (first_of (rs ++ qs) ≡ 0) ↔ ((first_of rs ≡ 0) × (first_of qs ≡ 0))
-append_exactly rs qs h = rw (first-append rs qs h) (go (first_of rs))
+append_exactly : (rs qs : List Condition) → (first_of (rs ++ qs) ≡ Ok tt) ↔ ((first_of rs ≡ Ok tt) × (first_of qs ≡ Ok tt))
+append_exactly rs qs = rw (first-append rs qs) (go (first_of rs))
   where
-    go : (n : ℕ) → (pick (eqb n 0) (first_of qs) n ≡ 0) ↔ ((n ≡ 0) × (first_of qs ≡ 0))
-    go zero = (λ e. (refl, e), λ z. z.1)
-    go (suc n) = rw (ne_eqb (suc n) 0 (suc-ne-zero n)) (λ e. absurd (suc-ne-zero n e), λ z. absurd (suc-ne-zero n z.0))
-
-module _ (rs qs : List Refusal) (numbered : Numbered rs) {k : ℕ} (e : k ≡ first_of rs) where
-  by_first : (k ≡ 0 → ⊥) → k ≡ first_of (rs ++ qs)
-  by_first nonzero = rw (first-append rs qs numbered, ← e, ne_eqb k 0 nonzero)
-
-  by_second : k ≡ 0 → first_of (rs ++ qs) ≡ first_of qs
-  by_second z = rw (first-append rs qs numbered, sym e ∙ z)
+    go : (r : Result (Unit {0}) Refusal) → (result_and r (first_of qs) ≡ Ok tt) ↔ ((r ≡ Ok tt) × (first_of qs ≡ Ok tt))
+    go (Ok u) = (λ e. (refl, e), λ z. z.1)
+    go (Err r) = (λ e. absurd (cc), λ z. let e = z.0 in absurd (cc))
 
 -- the second one is that a list is full
-abbrev full_if : ℕ → ℕ → ℕ → List Refusal
-full_if k limit size = full_by k (leb limit size) ∷ []
+abbrev full_if : Refusal → ℕ → ℕ → List Condition
+full_if r limit size = full_by r (leb limit size) ∷ []
 
-full_exactly : (k limit size : ℕ) → T (ltb 0 k) → (first_of (full_if k limit size) ≡ 0) ↔ (size < limit)
-full_exactly k limit size numbered = (
-  λ e. leb-false limit size (none_applies (full_if k limit size) (numbered, tt) e).0,
+full_exactly : (r : Refusal) (limit size : ℕ) → (first_of (full_if r limit size) ≡ Ok tt) ↔ (size < limit)
+full_exactly r limit size = (
+  λ e. leb-false limit size (none_applies (full_if r limit size) e).0,
   λ room. rw (lt-leb limit size room),
 )
 
 -- ---- of a call
 
--- refused by its entry, as its list is full, or not at all
-module _ (n m : ℕ) {c : Call} {t : Task} (e : c ≡ AddTask t) {k : ℕ} (f : k ≡ first_of (row_refusals t)) where
-  pub task-refused : (k ≡ 0 → ⊥) → k ≡ refusal_by n m c
-  unfolding refusal_by
-  task-refused nonzero = rw e (by_first (row_refusals t) (full_if 10 max_tasks n) (row_numbered t) f nonzero)
+-- its entry first, then whether its list is full
+pub task_by : (n m : ℕ) (t : Task)
+    → refusal_by n m (AddTask t) ≡ result_and (first_of (row_refusals t)) (pick (leb max_tasks n) (Err FullTasks) (Ok tt))
+unfolding refusal_by
+task_by n m t = first-append (row_refusals t) (full_if FullTasks max_tasks n)
 
-  pub task_full : k ≡ 0 → max_tasks ≤ n → 10 ≡ refusal_by n m c
-  unfolding refusal_by
-  task_full z full = rw (e, by_second (row_refusals t) (full_if 10 max_tasks n) (row_numbered t) f z, le-leb max_tasks n full)
-
-  pub task_taken : k ≡ 0 → n < max_tasks → 0 ≡ refusal_by n m c
-  unfolding refusal_by
-  task_taken z room = rw (e, by_second (row_refusals t) (full_if 10 max_tasks n) (row_numbered t) f z, lt-leb max_tasks n room)
-
-module _ (n m : ℕ) {c : Call} {r : Rule} (e : c ≡ AddRule r) {k : ℕ} (f : k ≡ first_of (index_refusals n r)) where
-  pub rule_refused : (k ≡ 0 → ⊥) → k ≡ refusal_by n m c
-  unfolding refusal_by
-  rule_refused nonzero = rw e (by_first (index_refusals n r) (full_if 12 max_rules m) (index_numbered n r) f nonzero)
-
-  pub rule_full : k ≡ 0 → max_rules ≤ m → 12 ≡ refusal_by n m c
-  unfolding refusal_by
-  rule_full z full = rw (e, by_second (index_refusals n r) (full_if 12 max_rules m) (index_numbered n r) f z, le-leb max_rules m full)
-
-  pub rule_taken : k ≡ 0 → m < max_rules → 0 ≡ refusal_by n m c
-  unfolding refusal_by
-  rule_taken z room = rw (e, by_second (index_refusals n r) (full_if 12 max_rules m) (index_numbered n r) f z, lt-leb max_rules m room)
+pub rule_by : (n m : ℕ) (r : Rule)
+    → refusal_by n m (AddRule r) ≡ result_and (first_of (index_refusals n r)) (pick (leb max_rules m) (Err FullRules) (Ok tt))
+unfolding refusal_by
+rule_by n m r = first-append (index_refusals n r) (full_if FullRules max_rules m)
 
 -- it is taken exactly when its entry is acceptable and its list has room
-pub taken_exactly : (n m : ℕ) (c : Call) → (refusal_by n m c ≡ 0) ↔ (Acceptable n c × Room n m c)
+pub taken_exactly : (n m : ℕ) (c : Call) → (refusal_by n m c ≡ Ok tt) ↔ (Acceptable n c × Room n m c)
 unfolding refusal_by
 taken_exactly n m (AddTask t) =
-    Iff.trans (append_exactly (row_refusals t) (full_if 10 max_tasks n) (row_numbered t))
-    (Iff.and (row_exactly t) (full_exactly 10 max_tasks n tt))
+    Iff.trans (append_exactly (row_refusals t) (full_if FullTasks max_tasks n)) (Iff.and (row_exactly t) (full_exactly FullTasks max_tasks n))
 taken_exactly n m (AddRule r) =
-    Iff.trans (append_exactly (index_refusals n r) (full_if 12 max_rules m) (index_numbered n r))
-    (Iff.and (index_exactly n r) (full_exactly 12 max_rules m tt))
+    Iff.trans (append_exactly (index_refusals n r) (full_if FullRules max_rules m))
+    (Iff.and (index_exactly n r) (full_exactly FullRules max_rules m))
 
 -- the check of 14 counts the entry alone
-pub task_counted : (n m : ℕ) (t : Task) → entry_fits n m (AddTask t) ≡ eqb (first_of (row_refusals t)) 0
+pub task_counted : (n m : ℕ) (t : Task) → entry_fits n m (AddTask t) ≡ is_ok (first_of (row_refusals t))
 unfolding entry_fits row_refusals
 task_counted n m t = refl
 
-pub rule_counted : (n m : ℕ) (r : Rule) → entry_fits n m (AddRule r) ≡ eqb (first_of (index_refusals n r)) 0
+pub rule_counted : (n m : ℕ) (r : Rule) → entry_fits n m (AddRule r) ≡ is_ok (first_of (index_refusals n r))
 unfolding entry_fits index_refusals
 rule_counted n m r = refl
 
 pub fits_exactly : (n m : ℕ) (c : Call) → T (entry_fits n m c) ↔ Acceptable n c
-fits_exactly n m (AddTask t) =
-    rw (task_counted n m t)
-    (λ h. (row_exactly t).0 (eqb→eq (first_of (row_refusals t)) 0 h), λ a. true→T _ (eq-eqb _ 0 ((row_exactly t).1 a)))
-fits_exactly n m (AddRule r) =
-    rw (rule_counted n m r)
-    (λ h. (index_exactly n r).0 (eqb→eq (first_of (index_refusals n r)) 0 h), λ a. true→T _ (eq-eqb _ 0 ((index_exactly n r).1 a)))
-
--- a refusal is a small number
-abbrev Small : List Refusal → Type 0
-Small [] = Unit {0}
-Small (r ∷ rs) = T (leb r.number 14) × Small rs
-
-first_small : (rs : List Refusal) → Small rs → first_of rs ≤ 14
-first_small [] h = omega arith
-first_small (r ∷ rs) h = pick-le r.applies (leb→le r.number 14 h.0) (first_small rs h.1)
-
-pub refusal_small : (n m : ℕ) (c : Call) → refusal_by n m c ≤ 14
-unfolding refusal_by row_refusals index_refusals
-refusal_small n m (AddTask t) = first_small (refusals n m (AddTask t)) (tt, (tt, (tt, (tt, (tt, (tt, tt))))))
-refusal_small n m (AddRule r) = first_small (refusals n m (AddRule r)) (tt, (tt, (tt, tt)))
+fits_exactly n m (AddTask t) = rw (task_counted n m t) (Iff.trans (ok_exactly (first_of (row_refusals t))) (row_exactly t))
+fits_exactly n m (AddRule r) = rw (rule_counted n m r) (Iff.trans (ok_exactly (first_of (index_refusals n r))) (index_exactly n r))

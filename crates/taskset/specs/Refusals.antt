@@ -1,10 +1,11 @@
 -- Document 01, "The sheet" and "Refusals": sizes, the ranges of a row with the sections of document 02, (c),
 -- and which refusals an adding call meets. Assumes nothing.
-use Rattle.std.specs.Prelude.{◌≡◌, Bool, true, false, ◌||◌, List, [], ◌∷◌, ◌++◌, ℕ, ◌-◌, ◌≤◌, ◌<◌, leb, ltb, eqb, get_or}
+use Rattle.std.specs.Prelude.{◌≡◌, Bool, true, false, ◌||◌, List, [], ◌∷◌, ◌++◌, ℕ, ◌-◌, ◌≤◌, ◌<◌, leb, ltb, eqb, get_or, Result, Ok, Err, is_ok}
 use Rattle.sets.specs.Choice.{pick}
 use Rattle.sets.specs.Bounded.{every, all}
 use Rattle.sets.specs.Maximum.{maximum}
-use Rattle.taskset.specs.declared.Sections.{Sections}
+use Rattle.taskset.specs.declared.refusals.Refusal.{Refusal}
+use Rattle.taskset.specs.declared.refusals.Refusal.TheVariants.{Period, Execution, Deadline, Jitter, Section, SameTask, FullTasks, NoSuchTask, FullRules}
 use Rattle.taskset.specs.declared.Task.{Task}
 use Rattle.taskset.specs.declared.Rule.{Rule}
 use Rattle.taskset.specs.declared.Call.{Call}
@@ -26,16 +27,9 @@ max_period = 1_000_000
 abbrev pub resources : ℕ
 resources = 8
 
--- sections of these lengths, and the lengths of sections, one for each resource
-abbrev pub sections_by : (ℕ → ℕ) → Sections
-sections_by f = record { r0 = f 0; r1 = f 1; r2 = f 2; r3 = f 3; r4 = f 4; r5 = f 5; r6 = f 6; r7 = f 7 }
-
-abbrev pub section_words : Sections → List ℕ
-section_words s = s.r0 ∷ s.r1 ∷ s.r2 ∷ s.r3 ∷ s.r4 ∷ s.r5 ∷ s.r6 ∷ s.r7 ∷ []
-
 -- the length of a task's section on a resource, 0 where it does not use it; and the longest
 unfoldable pub section_on : Task → ℕ → ℕ
-section_on t k = get_or (section_words t.sections) k 0
+section_on t k = get_or t.sections k 0
 
 unfoldable pub longest_section : Task → ℕ
 longest_section t = maximum resources every (section_on t)
@@ -46,26 +40,26 @@ uses_none t = all resources (λ k. eqb (section_on t k) 0)
 
 -- ---- refusals
 
--- a refusal of a call: its number, whether it applies, and whether the check of 14 counts it
-pub record Refusal : Type 0 where
-  pub number : ℕ
+-- a condition that a call may meet: why it is refused then, whether it applies, and whether the check of 14 counts it
+pub record Condition : Type 0 where
+  pub refusal : Refusal
   pub applies : Bool
   pub counted : Bool
 
 -- of an entry itself, and of a list that has no room for one more
-abbrev pub entry_by : ℕ → Bool → Refusal
-entry_by k applies = record { number = k; applies = applies; counted = true }
+abbrev pub entry_by : Refusal → Bool → Condition
+entry_by r applies = record { refusal = r; applies = applies; counted = true }
 
-abbrev pub full_by : ℕ → Bool → Refusal
-full_by k applies = record { number = k; applies = applies; counted = false }
+abbrev pub full_by : Refusal → Bool → Condition
+full_by r applies = record { refusal = r; applies = applies; counted = false }
 
--- the first that applies, 0 where none does
-abbrev pub first_of : List Refusal → ℕ
-first_of [] = 0
-first_of (r ∷ rs) = pick r.applies r.number (first_of rs)
+-- refused by the first that applies, taken where none does
+abbrev pub first_of : List Condition → Result (Unit {0}) Refusal
+first_of [] = Ok tt
+first_of (c ∷ cs) = pick c.applies (Err c.refusal) (first_of cs)
 
 -- those that the check of 14 counts
-abbrev pub counted_of : List Refusal → List Refusal
+abbrev pub counted_of : List Condition → List Condition
 counted_of [] = []
 counted_of (r ∷ rs) = pick r.counted (r ∷ counted_of rs) (counted_of rs)
 
@@ -76,34 +70,34 @@ abbrev pub outside : ℕ → ℕ → ℕ → Bool
 outside low high x = ltb x low || ltb high x
 
 -- a row's ranges
-unfoldable pub row_refusals : Task → List Refusal
+unfoldable pub row_refusals : Task → List Condition
 row_refusals t =
-    entry_by 1 (outside 1 max_period t.period)
-    ∷ entry_by 2 (outside 1 t.period t.execution)
-    ∷ entry_by 3 (outside 1 t.period t.deadline)
-    ∷ entry_by 4 (outside 0 (t.period - 1) t.jitter)
-    ∷ entry_by 5 (outside 0 t.execution (longest_section t))
+    entry_by Period (outside 1 max_period t.period)
+    ∷ entry_by Execution (outside 1 t.period t.execution)
+    ∷ entry_by Deadline (outside 1 t.period t.deadline)
+    ∷ entry_by Jitter (outside 0 (t.period - 1) t.jitter)
+    ∷ entry_by Section (outside 0 t.execution (longest_section t))
     ∷ []
 
 -- a rule's two task indices, in a set of n tasks
-unfoldable pub index_refusals : ℕ → Rule → List Refusal
+unfoldable pub index_refusals : ℕ → Rule → List Condition
 index_refusals n r =
-    entry_by 6 (eqb r.higher.0 r.lower.0)
-    ∷ entry_by 11 (leb n r.higher.0 || leb n r.lower.0)
+    entry_by SameTask (eqb r.higher.0 r.lower.0)
+    ∷ entry_by NoSuchTask (leb n r.higher.0 || leb n r.lower.0)
     ∷ []
 
 -- what an adding call to n tasks and m rules meets, in the paper's order
-abbrev pub refusals : ℕ → ℕ → Call → List Refusal
-refusals n m (AddTask t) = row_refusals t ++ full_by 10 (leb max_tasks n) ∷ []
-refusals n m (AddRule r) = index_refusals n r ++ full_by 12 (leb max_rules m) ∷ []
+abbrev pub refusals : ℕ → ℕ → Call → List Condition
+refusals n m (AddTask t) = row_refusals t ++ full_by FullTasks (leb max_tasks n) ∷ []
+refusals n m (AddRule r) = index_refusals n r ++ full_by FullRules (leb max_rules m) ∷ []
 
--- the refusal it gets, 0 where it is taken
-unfoldable pub refusal_by : ℕ → ℕ → Call → ℕ
+-- refused or taken
+unfoldable pub refusal_by : ℕ → ℕ → Call → Result (Unit {0}) Refusal
 refusal_by n m c = first_of (refusals n m c)
 
--- it is refused by no number that the check of 14 counts
+-- it is refused by none that the check of 14 counts
 unfoldable pub entry_fits : ℕ → ℕ → Call → Bool
-entry_fits n m c = eqb (first_of (counted_of (refusals n m c))) 0
+entry_fits n m c = is_ok (first_of (counted_of (refusals n m c)))
 
 -- ---- the same as facts: a row within its ranges, a rule between two tasks of n
 

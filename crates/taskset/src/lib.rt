@@ -2,90 +2,58 @@
 
 #![tactic(auto)]
 
-mod words;
+mod refusals;
+mod system;
 
-ghost use Rattle.std.specs.Prelude.{◌≡◌, true, ◌↔◌};
-ghost use Rattle.sets.specs.Bounded.{all};
+ghost use Rattle.std.specs.Prelude.{◌≡◌, ◌≤◌, ◌<◌, true, ◌↔◌, is_some, IfSome};
 ghost use Rattle.taskset.specs.declared.Call.TheVariants.{AddTask, AddRule};
-ghost use Rattle.taskset.specs.Refusals.{max_tasks, max_rules, section_on, longest_section, uses_none};
-ghost use Rattle.taskset.specs.Refusals.{first_of, outside, row_refusals, index_refusals, refusal_by};
-ghost use Rattle.taskset.specs.Model.{blank_task, blank_rule};
-ghost use Rattle.taskset.specs.Adding.{fresh_set, is_blank_task, is_blank_rule, task_fits, rule_fits, entry, is_made, add, Made};
+ghost use Rattle.taskset.specs.Refusals.{max_tasks, max_rules, resources, section_on, longest_section, uses_none};
+ghost use Rattle.taskset.specs.Refusals.{first_of, row_refusals, index_refusals, refusal_by};
+ghost use Rattle.taskset.specs.Model.{refusal_of, Sound};
+ghost use Rattle.taskset.specs.Numbers.{task_of, rule_of};
+ghost use Rattle.taskset.specs.Views.{lists_of};
+ghost use Rattle.taskset.specs.Adding.{fresh_set, is_blank_task, is_blank_rule, is_made, lists, add, Made};
 
-use sets::larger;
-pub use words::{
-    MAX_RULE_WORDS, MAX_TASK_WORDS, RULE_WORDS, TASK_WORDS, hold, put_rule, put_task, rule_from,
-    rule_in, section_in, task_from, task_in, write_words,
-};
+pub use refusals::Refusal;
+pub use system::{System, Tasks};
 
 pub const MAX_TASKS: usize = 64;
 
 pub const MAX_RULES: usize = 128;
 
-pub const MAX_PERIOD: u64 = 1000000;
+pub const MAX_PERIOD: u64 = 1_000_000;
 
 pub const RESOURCES: usize = 8;
 
+// How many numbers the text line of a task has, and that of a rule.
+pub const TASK_NUMBERS: usize = 4 + RESOURCES;
+
+pub const RULE_NUMBERS: usize = 2;
+
 // A task's place in its set, counted from 0 in the order of adding.
-#[derive(Clone, Copy)]
+#[derive(Clone, Copy, Debug, Default, PartialEq, Eq)]
 pub struct TaskIndex(pub usize);
 
 // A priority level: 0 is the highest.
-#[derive(Clone, Copy)]
+#[derive(Clone, Copy, Debug, PartialEq, Eq)]
 pub struct PriorityLevel(pub usize);
 
-// The length of a task's critical section on each of the resources; 0 where it does not use the resource.
-#[derive(Clone, Copy)]
-pub struct Sections {
-    pub r0: u64,
-    pub r1: u64,
-    pub r2: u64,
-    pub r3: u64,
-    pub r4: u64,
-    pub r5: u64,
-    pub r6: u64,
-    pub r7: u64,
-}
-
-// A row, in whole microseconds.
-#[derive(Clone, Copy)]
+// A row, in whole microseconds. A section is the length of the task's critical section on a resource, 0 where it does not use it.
+#[derive(Clone, Copy, Default, PartialEq, Eq)]
 pub struct Task {
     pub period: u64,
     pub execution: u64,
     pub deadline: u64,
     pub jitter: u64,
-    pub sections: Sections,
+    pub sections: [u64; RESOURCES],
 }
 
 // The task `higher` has a higher priority than the task `lower`.
-#[derive(Clone, Copy)]
+#[derive(Clone, Copy, Default, PartialEq, Eq)]
 pub struct Rule {
     pub higher: TaskIndex,
     pub lower: TaskIndex,
 }
-
-// What stands in an unused entry.
-const BLANK_TASK: Task = Task {
-    period: 0,
-    execution: 0,
-    deadline: 0,
-    jitter: 0,
-    sections: Sections {
-        r0: 0,
-        r1: 0,
-        r2: 0,
-        r3: 0,
-        r4: 0,
-        r5: 0,
-        r6: 0,
-        r7: 0,
-    },
-};
-
-const BLANK_RULE: Rule = Rule {
-    higher: TaskIndex(0),
-    lower: TaskIndex(0),
-};
 
 // Document 01's sheet: the first ntasks tasks and the first nrules rules are used, the others are all zeros.
 #[derive(Clone, Copy)]
@@ -103,190 +71,144 @@ pub enum Call {
     AddRule(Rule),
 }
 
-// What an adding call answers: the refusal's number, 0 where it is taken, and the set after the call.
+// What an adding call answers: whether it is taken, or why not, and the set after the call.
 #[derive(Clone, Copy)]
 pub struct Added {
-    pub refusal: u64,
+    pub answer: Result<(), Refusal>,
     pub set: TaskSet,
 }
 
-// The length of a task's section on a resource.
-#[tactic(auto, unfolding(crate::specs::Refusals::section_on))]
-fn section_on(t: Task, resource: usize) -> u64
-    ensures { result ≡ section_on t resource }
-{
-    let s = t.sections;
-    match resource {
-        0 => s.r0,
-        1 => s.r1,
-        2 => s.r2,
-        3 => s.r3,
-        4 => s.r4,
-        5 => s.r5,
-        6 => s.r6,
-        7 => s.r7,
-        _ => 0,
+impl From<[u64; TASK_NUMBERS]> for Task {
+    ghost from_gives = { λ numbers task. task ≡ task_of numbers };
+
+    // In the order of a line: C, T, D, J and the sections.
+    fn from(numbers: [u64; TASK_NUMBERS]) -> Task {
+        let [execution, period, deadline, jitter, ..] = numbers;
+        Task {
+            period,
+            execution,
+            deadline,
+            jitter,
+            sections: std::array::from_fn(|k| numbers[4 + k]),
+        }
     }
 }
 
-// The longest of a task's sections.
-fn longest_section(t: Task) -> u64
-    ensures { result ≡ longest_section t }
-{
-    let mut longest = 0;
-    let mut k = 0;
-    while k < RESOURCES {
-        longest = larger(longest, section_on(t, k));
-        k += 1;
+impl From<[u64; RULE_NUMBERS]> for Rule {
+    ghost from_gives = { λ numbers rule. rule ≡ rule_of numbers };
+
+    // In the order of a line: u, l.
+    fn from(numbers: [u64; RULE_NUMBERS]) -> Rule {
+        let [higher, lower] = numbers;
+        Rule {
+            higher: TaskIndex(higher as usize),
+            lower: TaskIndex(lower as usize),
+        }
     }
-    longest
 }
 
-// A task that uses no resource.
-#[tactic(auto, unfolding(crate::specs::Refusals::uses_none, crate::specs::Refusals::section_on, sets::specs::Bounded::all))]
-pub fn uses_none(t: Task) -> bool
-    ensures { result ≡ uses_none t }
-{
-    let s = t.sections;
-    let upper = (s.r7 == 0) & (s.r6 == 0) & (s.r5 == 0) & (s.r4 == 0);
-    upper & (s.r3 == 0) & (s.r2 == 0) & (s.r1 == 0) & (s.r0 == 0)
+impl Task {
+    // The length of its section on a resource.
+    #[tactic(auto, unfolding(crate::specs::Refusals::section_on))]
+    pub fn section(&self, resource: usize) -> u64
+        requires { resource < resources }
+        ensures { result ≡ section_on self.now resource }
+    {
+        self.sections[resource]
+    }
+
+    // The longest of its sections.
+    #[tactic(auto, using(crate::specs::RefusalLaws::longest_of))]
+    fn longest_section(&self) -> u64
+        ensures { result ≡ longest_section self.now }
+    {
+        let sections = self.sections.iter();
+        sections.fold(0, |longest, section| longest.max(*section))
+    }
+
+    // It uses no resource.
+    #[tactic(auto, unfolding(crate::specs::Refusals::uses_none, crate::specs::Refusals::section_on, sets::specs::Bounded::all))]
+    pub fn uses_none(&self) -> bool
+        ensures { result ≡ uses_none self.now }
+    {
+        self.sections.iter().all(|section| *section == 0)
+    }
+
+    // All zeros. Not generic over tasks and rules: at a type parameter `==` says nothing of what a row is.
+    fn is_blank(&self) -> bool
+        ensures { result ≡ is_blank_task self.now }
+    {
+        *self == Task::default()
+    }
+
+    // Refusals 1 to 5.
+    #[tactic(auto, unfolding(crate::specs::Refusals::row_refusals))]
+    fn check(&self) -> Result<(), Refusal>
+        ensures { result ≡ first_of (row_refusals self.now) }
+    {
+        let period = self.period;
+        if !(1..=MAX_PERIOD).contains(&period) {
+            return Err(Refusal::Period);
+        }
+        if !(1..=period).contains(&self.execution) {
+            return Err(Refusal::Execution);
+        }
+        if !(1..=period).contains(&self.deadline) {
+            return Err(Refusal::Deadline);
+        }
+        if period <= self.jitter {
+            return Err(Refusal::Jitter);
+        }
+        if self.execution < self.longest_section() {
+            return Err(Refusal::Section);
+        }
+        Ok(())
+    }
 }
 
-// x is not one of low to high.
-fn outside(low: u64, high: u64, x: u64) -> bool
-    ensures { result ≡ outside low high x }
-{
-    (x < low) | (high < x)
+impl Rule {
+    // All zeros.
+    fn is_blank(&self) -> bool
+        ensures { result ≡ is_blank_rule self.now }
+    {
+        *self == Rule::default()
+    }
+
+    // Refusals 6 and 11, in a set of n tasks.
+    #[tactic(auto, unfolding(crate::specs::Refusals::index_refusals))]
+    fn check(&self, n: usize) -> Result<(), Refusal>
+        ensures { result ≡ first_of (index_refusals n self.now) }
+    {
+        if self.higher == self.lower {
+            return Err(Refusal::SameTask);
+        }
+        if n <= self.higher.0 || n <= self.lower.0 {
+            return Err(Refusal::NoSuchTask);
+        }
+        Ok(())
+    }
 }
 
-// The first of refusals 1 to 5 that a row meets, 0 where it meets none.
-#[tactic(auto, unfolding(crate::specs::Refusals::row_refusals))]
-fn row_refusal(t: Task) -> u64
-    ensures { result ≡ first_of (row_refusals t) }
-{
-    let period = t.period;
-    if outside(1, MAX_PERIOD, period) {
-        return 1;
-    }
-    if outside(1, period, t.execution) {
-        return 2;
-    }
-    if outside(1, period, t.deadline) {
-        return 3;
-    }
-    if outside(0, period - 1, t.jitter) {
-        return 4;
-    }
-    if outside(0, t.execution, longest_section(t)) {
-        return 5;
-    }
-    0
-}
-
-// The first of refusals 6 and 11 that a rule meets in a set of n tasks, 0 where it meets none.
-#[tactic(auto, unfolding(crate::specs::Refusals::index_refusals))]
-fn index_refusal(n: usize, r: Rule) -> u64
-    ensures { result ≡ first_of (index_refusals n r) }
-{
-    let higher = r.higher.0;
-    let lower = r.lower.0;
-    if higher == lower {
-        return 6;
-    }
-    if (n <= higher) | (n <= lower) {
-        return 11;
-    }
-    0
-}
-
-// The refusal of a call to a set of n tasks and m rules, 0 where it is taken: 1 to 5, then 10; or 6, 11, then 12.
-#[tactic(auto, using(crate::proofs::Refusing::refusing))]
-pub fn refusal(n: usize, m: usize, call: Call) -> u64
-    ensures { result ≡ refusal_by n m call }
+// A call to a set of n tasks and m rules: refusals 1 to 5, then 10; or 6, 11, then 12.
+#[tactic(auto, using(crate::specs::RefusalLaws::task_by, crate::specs::RefusalLaws::rule_by))]
+pub fn check(n: usize, m: usize, call: &Call) -> Result<(), Refusal>
+    ensures { result ≡ refusal_by n m call.now }
 {
     match call {
         Call::AddTask(task) => {
-            let refusal = row_refusal(task);
-            if refusal != 0 {
-                return refusal;
-            }
+            task.check()?;
             if MAX_TASKS <= n {
-                return 10;
+                return Err(Refusal::FullTasks);
             }
-            0
         }
         Call::AddRule(rule) => {
-            let refusal = index_refusal(n, rule);
-            if refusal != 0 {
-                return refusal;
-            }
+            rule.check(n)?;
             if MAX_RULES <= m {
-                return 12;
+                return Err(Refusal::FullRules);
             }
-            0
         }
     }
-}
-
-// All zeros.
-fn is_blank_task(t: Task) -> bool
-    ensures { result ≡ is_blank_task t }
-{
-    (t.period == 0) & (t.execution == 0) & (t.deadline == 0) & (t.jitter == 0) & uses_none(t)
-}
-
-fn is_blank_rule(r: Rule) -> bool
-    ensures { result ≡ is_blank_rule r }
-{
-    (r.higher.0 == 0) & (r.lower.0 == 0)
-}
-
-// An entry of the task list: a row that adding takes where it is used, all zeros where it is not.
-#[tactic(auto, using(crate::specs::RefusalLaws::task_counted), unfolding(crate::specs::Adding::task_fits))]
-fn task_fits(n: usize, m: usize, used: bool, t: Task) -> bool
-    ensures { result ≡ task_fits n m used t }
-{
-    if used {
-        return row_refusal(t) == 0;
-    }
-    is_blank_task(t)
-}
-
-#[tactic(auto, using(crate::specs::RefusalLaws::rule_counted), unfolding(crate::specs::Adding::rule_fits))]
-fn rule_fits(n: usize, m: usize, used: bool, r: Rule) -> bool
-    ensures { result ≡ rule_fits n m used r }
-{
-    if used {
-        return index_refusal(n, r) == 0;
-    }
-    is_blank_rule(r)
-}
-
-// Every entry of a task list, of a rule list, in a set that says it has n tasks and m rules.
-fn task_entries(tasks: [Task; MAX_TASKS], n: usize, m: usize) -> bool
-    ensures { result ≡ all max_tasks (entry (task_fits n m) blank_task n tasks) }
-{
-    let mut i = 0;
-    while i < MAX_TASKS {
-        if !task_fits(n, m, i < n, tasks[i]) {
-            return false;
-        }
-        i += 1;
-    }
-    true
-}
-
-fn rule_entries(rules: [Rule; MAX_RULES], n: usize, m: usize) -> bool
-    ensures { result ≡ all max_rules (entry (rule_fits n m) blank_rule m rules) }
-{
-    let mut i = 0;
-    while i < MAX_RULES {
-        if !rule_fits(n, m, i < m, rules[i]) {
-            return false;
-        }
-        i += 1;
-    }
-    true
+    Ok(())
 }
 
 impl TaskSet {
@@ -295,53 +217,83 @@ impl TaskSet {
         ensures { result ≡ fresh_set }
     {
         TaskSet {
-            tasks: [BLANK_TASK; MAX_TASKS],
+            tasks: [Task::default(); MAX_TASKS],
             ntasks: 0,
-            rules: [BLANK_RULE; MAX_RULES],
+            rules: [Rule::default(); MAX_RULES],
             nrules: 0,
         }
     }
 
     // Some list of adding calls makes this set; if not, every call refuses it with 14.
-    pub fn is_made(self) -> bool
-        ensures value { result ≡ is_made self }
-        ensures exact { (result ≡ true) ↔ Made self }
+    pub fn is_made(&self) -> bool
+        ensures value { result ≡ is_made self.now }
+        ensures exact { (result ≡ true) ↔ Made self.now }
     {
         let n = self.ntasks;
         let m = self.nrules;
-        let tasks = self.tasks;
-        let rules = self.rules;
-        (n <= MAX_TASKS) & (m <= MAX_RULES) & task_entries(tasks, n, m) & rule_entries(rules, n, m)
+        n <= MAX_TASKS
+            && m <= MAX_RULES
+            && self.tasks[..n].iter().all(|task| task.check().is_ok())
+            && self.tasks[n..].iter().all(Task::is_blank)
+            && self.rules[..m].iter().all(|rule| rule.check(n).is_ok())
+            && self.rules[m..].iter().all(Rule::is_blank)
+    }
+
+    // Its lists, of which adding has taken every entry.
+    pub fn system(&self) -> System<'_>
+        requires counts { (self.now.ntasks ≤ max_tasks) × (self.now.nrules ≤ max_rules) }
+        requires sound { Sound (lists self.now) }
+        ensures { lists_of result ≡ lists self.now }
+    {
+        System {
+            tasks: &self.tasks[..self.ntasks],
+            rules: &self.rules[..self.nrules],
+        }
+    }
+
+    // The lists of a set that calls make, and nothing of any other.
+    pub fn checked(&self) -> Option<System<'_>>
+        ensures made { is_some result ≡ is_made self.now }
+        ensures lists { IfSome result (λ s. lists_of s ≡ lists self.now) }
+    {
+        if !self.is_made() {
+            return None;
+        }
+        Some(self.system())
+    }
+
+    // An adding call on a set that calls make.
+    #[tactic(auto, using(crate::specs::AddingLaws::hearing))]
+    pub fn hear(&mut self, call: Call) -> Result<(), Refusal>
+        requires { is_made self.old ≡ true }
+        ensures answer { result ≡ refusal_of (lists self.old) call }
+        ensures set { self.new ≡ (add self.old call).set }
+    {
+        check(self.ntasks, self.nrules, &call)?;
+        match call {
+            Call::AddTask(task) => {
+                self.tasks[self.ntasks] = task;
+                self.ntasks += 1;
+            }
+            Call::AddRule(rule) => {
+                self.rules[self.nrules] = rule;
+                self.nrules += 1;
+            }
+        }
+        Ok(())
     }
 
     // An adding call: refusal 14, then those of the call.
-    pub fn add(self, call: Call) -> Added
+    #[tactic(auto, using(crate::specs::AddingLaws::adding))]
+    pub fn add(mut self, call: Call) -> Added
         ensures { result ≡ add self call }
     {
-        if !self.is_made() {
-            return Added {
-                refusal: 14,
-                set: self,
-            };
-        }
-        let n = self.ntasks;
-        let m = self.nrules;
-        let refusal = refusal(n, m, call);
-        if refusal != 0 {
-            return Added { refusal, set: self };
-        }
-        let mut set = self;
-        match call {
-            Call::AddTask(task) => {
-                set.tasks[n] = task;
-                set.ntasks = n + 1;
-            }
-            Call::AddRule(rule) => {
-                set.rules[m] = rule;
-                set.nrules = m + 1;
-            }
-        }
-        Added { refusal: 0, set }
+        let answer = if self.is_made() {
+            self.hear(call)
+        } else {
+            Err(Refusal::NotMade)
+        };
+        Added { answer, set: self }
     }
 
     // Refusals 14, 1 to 5, 10.

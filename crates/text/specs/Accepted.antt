@@ -1,13 +1,14 @@
 -- The accepted lines are exactly the letter and those numbers, written in decimal and parted by single tabs: a line and its
 -- fields determine each other, and so do a field that is a number and its value. Assumes nothing.
-use Rattle.std.specs.Prelude.{◌≡◌, refl, Bool, true, false, ◌&&◌, ◌↔◌, ◌≢◌, ℕ, zero, suc, ◌+◌, ◌^◌, ◌≤◌, ◌<◌, leb, get_or, drop}
-use Rattle.std.proofs.Common.{sym, ◌∙◌, true≢false, arith, leb→le, drop_of_length-le, drop-cons, ne_eqb, eqb-true}
+use Rattle.std.specs.Prelude.{◌≡◌, refl, Some, Bool, true, false, ◌&&◌, ◌↔◌, ◌≢◌, ℕ, zero, suc, ◌+◌, ◌^◌, ◌≤◌, ◌<◌, leb, get_or, drop}
+use Rattle.std.proofs.Common.{sym, ◌∙◌, arith, leb→le, drop_of_length-le, drop-cons, ne_eqb, eqb-true}
 use Rattle.std.proofs.Math.Path.{ap, ap₂, subst}
 use Rattle.std.proofs.lemmas.Bool.{false≢true}
 use mathlib.Core.List.{List, [], ◌∷◌, map}
 use Rattle.std.proofs.Math.Dec.{T, eqb, eqb→eq}
 use Rattle.std.proofs.Math.ListN.{length, length-map}
 use Rattle.sets.specs.Choice.{T→true, true→T, and_left, and_right}
+use Rattle.sets.specs.Marks.{table}
 use Rattle.lines.specs.Decimal.{tab, max_digits, is_digit, are_digits, value, is_number, decimal}
 use Rattle.lines.specs.Parts.{parts, join}
 use Rattle.lines.specs.ReadBack.{decimal_digits, read_back, number_exactly}
@@ -15,9 +16,8 @@ use Rattle.lines.specs.PartsLaws.{join-parts, Clear, AllClear, parts_join}
 use Rattle.taskset.specs.declared.Task.{Task}
 use Rattle.taskset.specs.declared.Rule.{Rule}
 use Rattle.taskset.specs.declared.Call.TheVariants.{AddTask, AddRule}
-use Rattle.taskset.specs.Words.{task_words, task_of, rule_words, rule_of, task_size, rule_size}
-use Rattle.text.specs.declared.Line.{Line}
-use Rattle.text.specs.declared.Line.TheVariants.{Asks}
+use Rattle.taskset.specs.Refusals.{resources}
+use Rattle.taskset.specs.Numbers.{task_numbers, rule_numbers, task_of, rule_of, task_size, rule_size}
 use Rattle.text.specs.LineLaws.{asks}
 use Rattle.text.specs.Text.{letter_t, letter_r, is_letter, are_numbers, has_form, values_in, asked, line_in}
 
@@ -96,57 +96,78 @@ module _ (letter : ℕ) (ns : List ℕ) where
       )
 
   -- what holds of the fields holds of the line
-  line_exactly : (l : Line) → letter ≢ tab → ((fs : List (List ℕ)) → asked fs ≡ l → (fs ≡ lettered letter ns) × Short ns)
-      → (Short ns → asked (lettered letter ns) ≡ l)
-      → (bytes : List ℕ) → (line_in bytes ≡ l) ↔ ((bytes ≡ join tab (lettered letter ns)) × Short ns)
-  line_exactly l other read written bytes =
-      let clear : AllClear tab (lettered letter ns) = ((ne_eqb letter tab other, tt), numbers_clear ns) in (
-        λ e. let r = read (parts tab bytes) e in (sym (join-parts tab bytes) ∙ ap (join tab) r.0, r.1),
-        λ h. rw (h.0, parts_join tab (lettered letter ns) (omega arith) clear) (written h.1),
-      )
+  line_of_fields : (bytes : List ℕ) → parts tab bytes ≡ lettered letter ns → bytes ≡ join tab (lettered letter ns)
+  line_of_fields bytes e = sym (join-parts tab bytes) ∙ ap (join tab) e
+
+  fields_of_line : letter ≢ tab → (bytes : List ℕ) → bytes ≡ join tab (lettered letter ns) → line_in bytes ≡ asked (lettered letter ns)
+  fields_of_line other bytes e =
+      let clear : AllClear tab (lettered letter ns) = ((ne_eqb letter tab other, tt), numbers_clear ns) in
+      rw (e, parts_join tab (lettered letter ns) (omega arith) clear)
 
 -- ---- both kinds of lines
 
--- a task's: read, written, and both ways
-task_line_read : (t : Task) (fs : List (List ℕ)) → asked fs ≡ Asks (AddTask t)
-    → (fs ≡ lettered letter_t (task_words t)) × Short (task_words t)
+-- a row with a section for each resource is the one of its numbers
+table_self : (xs : List ℕ) → table (length xs) (λ k. get_or xs k 0) ≡ xs
+table_self [] = refl
+table_self (x ∷ xs) = ap (λ (ys : List ℕ). x ∷ ys) (table_self xs)
+
+task_self : (t : Task) → length t.sections ≡ resources → task_of (task_numbers t) ≡ t
+task_self t whole =
+    let same : table resources (λ k. get_or t.sections k 0) ≡ t.sections =
+    subst (λ (n : ℕ). table n (λ k. get_or t.sections k 0) ≡ t.sections) whole (table_self t.sections) in
+    ap (λ (xs : List ℕ). record t { sections = xs }) same
+
+-- a task's line: read, written, and both ways
+task_line_read : (t : Task) (fs : List (List ℕ)) → asked fs ≡ Some (AddTask t)
+    → (fs ≡ lettered letter_t (task_numbers t)) × Short (task_numbers t) × (length t.sections ≡ resources)
 unfolding asked
 task_line_read t fs = go (has_form letter_t task_size fs) (has_form letter_r rule_size fs) refl
   where
-    go : (a b : Bool) → has_form letter_t task_size fs ≡ a → asks a b (values_in fs) ≡ Asks (AddTask t)
-        → (fs ≡ lettered letter_t (task_words t)) × Short (task_words t)
+    go : (a b : Bool) → has_form letter_t task_size fs ≡ a → asks a b (values_in fs) ≡ Some (AddTask t)
+        → (fs ≡ lettered letter_t (task_numbers t)) × Short (task_numbers t) × (length t.sections ≡ resources)
     go true b form e =
         let same : task_of (values_in fs) ≡ t = cc in
-        form_read letter_t (task_words t) task_size fs form (ap task_words same)
-    go false true form e = absurd (true≢false (cc))
-    go false false form e = absurd (true≢false (cc))
+        let read = form_read letter_t (task_numbers t) task_size fs form (ap task_numbers same) in
+        (read.0, read.1, ap (λ (u : Task). length u.sections) (sym same))
+    go false true form e = absurd (cc)
+    go false false form e = absurd (cc)
 
-task_line_written : (t : Task) → Short (task_words t) → asked (lettered letter_t (task_words t)) ≡ Asks (AddTask t)
+task_line_written : (t : Task) → length t.sections ≡ resources → Short (task_numbers t)
+    → asked (lettered letter_t (task_numbers t)) ≡ Some (AddTask t)
 unfolding asked has_form
-task_line_written t s = let w = numbers_written (task_words t) s in rw w.0 (ap (λ (ms : List ℕ). Asks (AddTask (task_of ms))) w.1)
+task_line_written t whole s =
+    let w = numbers_written (task_numbers t) s in
+    let long : length (map decimal (task_numbers t)) ≡ task_size = omega (arith, length-map (task_numbers t) decimal) in
+    rw (w.0, long) (ap (λ (ms : List ℕ). Some (AddTask (task_of ms))) w.1 ∙ ap (λ (u : Task). Some (AddTask u)) (task_self t whole))
 
-pub task_line_exactly : (bytes : List ℕ) (t : Task)
-    → (line_in bytes ≡ Asks (AddTask t)) ↔ ((bytes ≡ join tab (lettered letter_t (task_words t))) × Short (task_words t))
-task_line_exactly bytes t = line_exactly letter_t (task_words t) (Asks (AddTask t)) (omega arith) (task_line_read t) (task_line_written t) bytes
+pub task_line_exactly : (bytes : List ℕ) (t : Task) → (line_in bytes ≡ Some (AddTask t))
+    ↔ ((bytes ≡ join tab (lettered letter_t (task_numbers t))) × Short (task_numbers t) × (length t.sections ≡ resources))
+task_line_exactly bytes t = (
+  λ e. let r = task_line_read t (parts tab bytes) e in (line_of_fields letter_t (task_numbers t) bytes r.0, r.1, r.2),
+  λ h. fields_of_line letter_t (task_numbers t) (omega arith) bytes h.0 ∙ task_line_written t h.2 h.1,
+)
 
 -- and a rule's
-rule_line_read : (r : Rule) (fs : List (List ℕ)) → asked fs ≡ Asks (AddRule r)
-    → (fs ≡ lettered letter_r (rule_words r)) × Short (rule_words r)
+rule_line_read : (r : Rule) (fs : List (List ℕ)) → asked fs ≡ Some (AddRule r)
+    → (fs ≡ lettered letter_r (rule_numbers r)) × Short (rule_numbers r)
 unfolding asked
 rule_line_read r fs = go (has_form letter_t task_size fs) (has_form letter_r rule_size fs) refl
   where
-    go : (a b : Bool) → has_form letter_r rule_size fs ≡ b → asks a b (values_in fs) ≡ Asks (AddRule r)
-        → (fs ≡ lettered letter_r (rule_words r)) × Short (rule_words r)
-    go true b form e = absurd (true≢false (cc))
+    go : (a b : Bool) → has_form letter_r rule_size fs ≡ b → asks a b (values_in fs) ≡ Some (AddRule r)
+        → (fs ≡ lettered letter_r (rule_numbers r)) × Short (rule_numbers r)
+    go true b form e = absurd (cc)
     go false true form e =
         let same : rule_of (values_in fs) ≡ r = cc in
-        form_read letter_r (rule_words r) rule_size fs form (ap rule_words same)
-    go false false form e = absurd (true≢false (cc))
+        form_read letter_r (rule_numbers r) rule_size fs form (ap rule_numbers same)
+    go false false form e = absurd (cc)
 
-rule_line_written : (r : Rule) → Short (rule_words r) → asked (lettered letter_r (rule_words r)) ≡ Asks (AddRule r)
+rule_line_written : (r : Rule) → Short (rule_numbers r) → asked (lettered letter_r (rule_numbers r)) ≡ Some (AddRule r)
 unfolding asked has_form
-rule_line_written r s = let w = numbers_written (rule_words r) s in rw w.0 (ap (λ (ms : List ℕ). Asks (AddRule (rule_of ms))) w.1)
+rule_line_written r s = let w = numbers_written (rule_numbers r) s in rw w.0 (ap (λ (ms : List ℕ). Some (AddRule (rule_of ms))) w.1)
 
 pub rule_line_exactly : (bytes : List ℕ) (r : Rule)
-    → (line_in bytes ≡ Asks (AddRule r)) ↔ ((bytes ≡ join tab (lettered letter_r (rule_words r))) × Short (rule_words r))
-rule_line_exactly bytes r = line_exactly letter_r (rule_words r) (Asks (AddRule r)) (omega arith) (rule_line_read r) (rule_line_written r) bytes
+    → (line_in bytes ≡ Some (AddRule r)) ↔ ((bytes ≡ join tab (lettered letter_r (rule_numbers r))) × Short (rule_numbers r))
+rule_line_exactly bytes r = (
+  λ e. let h = rule_line_read r (parts tab bytes) e in (line_of_fields letter_r (rule_numbers r) bytes h.0, h.1),
+  λ h. fields_of_line letter_r (rule_numbers r) (omega arith) bytes h.0 ∙ rule_line_written r h.1,
+)

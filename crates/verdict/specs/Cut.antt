@@ -21,5 +21,5 @@ pub record Cutting (p : Problem) (c : Cut) : Type 0 where
 -- ---- when it is done
 
 -- the marks of the core, by rule place
-abbrev pub core_marks : Lists → List Bool
+unfoldable pub core_marks : Lists → List Bool
 core_marks l = let m = length l.rules in pad max_rules false (table m (core_of (feasible (problem l)) m))

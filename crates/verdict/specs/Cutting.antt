@@ -1,20 +1,15 @@
 -- Cutting a core down, over any test: what a rule tried leaves, searched for or not; and the core as an array. Assumes nothing.
-use Rattle.std.specs.Prelude.{◌≡◌, Bool, List, T, eqb, length, set, replicate}
-use Rattle.std.proofs.Math.Path.{refl, ap, fun_ext}
-use Rattle.std.proofs.Common.{sym, subst, ◌∙◌, inr, ⊎_elim, arith, eqb-true, length-set}
-use Rattle.std.proofs.Math.Bool.{true, false}
-use Prim.Native.Nat.{ℕ, ◌+◌, ◌<◌}
-use Rattle.std.proofs.Math.Numerals.{add-one}
-use Rattle.sets.specs.Marks.{first, marked, marked-none, marked_store, marked-without, table_is}
-use Rattle.sets.specs.Choice.{pick, T→true, refuted→false}
+use Rattle.std.specs.Prelude.{◌≡◌, refl, Bool, false, List, ℕ, ◌<◌, T, length, set, replicate}
+use Rattle.std.proofs.Common.{sym, subst, ◌∙◌, inr, ⊎_elim, arith, length-set}
+use Rattle.sets.specs.Marks.{first, marked, marked-none, marked-without, table_is}
+use Rattle.sets.specs.Choice.{T→true, refuted→false}
 use Rattle.sets.specs.Bounded.{Subset, without, without_still}
 use Rattle.taskset.specs.Refusals.{max_rules}
 use Rattle.taskset.specs.Model.{Lists, rule_at, Sound}
 use Rattle.assignment.specs.declared.Search.{Search}
-use Rattle.assignment.specs.declared.Hints.{Hints}
-use Rattle.assignment.specs.Audsley.{Problem, without_rules, feasible, Stuck, problem}
+use Rattle.assignment.specs.Audsley.{Problem, feasible, Stuck, problem}
 use Rattle.assignment.specs.Decision.{Lawful, stuck_without, feasible_fewer}
-use Rattle.assignment.specs.Search.{Searched, Ended, Helps}
+use Rattle.assignment.specs.Search.{Searched, Ended}
 use Rattle.assignment.specs.Filling.{ended_decides, searched_fewer}
 use Rattle.assignment.specs.Hints.{searched_bare}
 use Rattle.verdict.specs.declared.Cut.{Cut}
@@ -33,43 +28,11 @@ module _ (test : (ℕ → Bool) → Bool) where
   unfolding tried
   tried_goes active k t = rw (refuted→false (test (without active k)) t)
 
-  -- it touches no other rule
-  tried_others : (active : ℕ → Bool) (k j : ℕ) → eqb k j ≡ false → tried test active k j ≡ active j
-  unfolding tried
-  tried_others active k j e = go (test (without active k))
-    where
-      go : (b : Bool) → pick b active (without active k) j ≡ active j
-      go true = refl
-      go false = rw e
-
-  -- its mark away while it is tried, and then as it was found
-  pub tried_marks : (marks : List Bool) (active found : ℕ → Bool) (k : ℕ) → k < length marks → marked marks ≡ active
-      → found ≡ tried test active k → marked (set (set marks k false) k (found k)) ≡ found
-  tried_marks marks active found k h e f =
-      fun_ext (λ j. marked_store (set marks k false) k (found k) (omega (arith, length-set marks k false)) j ∙ go j (eqb k j) refl)
-    where
-      go : (j : ℕ) (c : Bool) → eqb k j ≡ c → pick c (found k) (marked (set marks k false) j) ≡ found j
-      go j true g = ap found (eqb-true k j g)
-      go j false g =
-          marked_store marks k false h j
-          ∙ ap (λ (c : Bool). pick c false (marked marks j)) g
-          ∙ ap (λ (a : ℕ → Bool). a j) e
-          ∙ sym (tried_others active k j g)
-          ∙ ap (λ (a : ℕ → Bool). a j) (sym f)
-
-  pub stay-next : (m k : ℕ) (now next : ℕ → Bool) → now ≡ staying test m k → next ≡ tried test now k → next ≡ staying test m (k + 1)
-  unfolding staying
-  stay-next m k now next e f = rw add-one (f ∙ ap (λ (s : ℕ → Bool). tried test s k) e)
-
   pub stay_none : (m : ℕ) → first m ≡ staying test m 0
   unfolding staying
   stay_none m = refl
 
 -- ---- while a core is cut down
-
--- the known tasks and the other search, as the code hands them on
-abbrev pub hints_of : Cut → Hints
-hints_of c = record { given = true; known = c.known; other = c.other }
 
 module _ (p : Problem) (lawful : Lawful p) (c : Cut) (cutting : Cutting p c) (k : ℕ) (h : k < max_rules) where
   -- the rules that are left in it without this one, as the code writes them
@@ -85,12 +48,9 @@ module _ (p : Problem) (lawful : Lawful p) (c : Cut) (cutting : Cutting p c) (k 
   pub cut_searched : Searched p (marked less) c.stuck
   cut_searched = searched_fewer p (marked less) (marked c.active) fewer c.stuck cutting.stuck.searched
 
-  pub cut_helps : Helps (without_rules p) (marked c.stuck.left) (hints_of c)
-  cut_helps = record { known = λ on. cutting.known; other = λ on. cutting.other }
-
-  -- with the rest infeasible, the rule goes
-  goes : (s : Search) → Ended p (marked less) s → (s.free ≡ 0 → ⊥) → marked less ≡ tried (feasible p) (marked c.active) k
-  goes s ended more =
+  -- a search without the rule that did not fill every level: the rest is infeasible, and the rule goes
+  pub cut_goes : (s : Search) → Ended p (marked less) s → (s.free ≡ 0 → ⊥) → marked less ≡ tried (feasible p) (marked c.active) k
+  cut_goes s ended more =
       less_marks
       ∙ tried_goes (feasible p) (marked c.active) k
       (λ t. more ((ended_decides p (marked less) lawful s ended).1 (subst (λ (f : ℕ → Bool). T (feasible p f)) (sym less_marks) t)))
@@ -111,7 +71,7 @@ module _ (p : Problem) (lawful : Lawful p) (c : Cut) (cutting : Cutting p c) (k 
     pub cut_spared : (marked less ≡ tried (feasible p) (marked c.active) k)
         × Cutting p (record { active = less; stuck = c.stuck; known = c.known; other = c.other })
     cut_spared = (
-      goes c.stuck still (λ z. omega (arith, z, cutting.unfilled)),
+      cut_goes c.stuck still (λ z. omega (arith, z, cutting.unfilled)),
       record { long = simp length-set cutting.long; stuck = still; unfilled = cutting.unfilled; known = cutting.known; other = cutting.other },
     )
 
@@ -128,21 +88,6 @@ module _ (p : Problem) (lawful : Lawful p) (c : Cut) (cutting : Cutting p c) (k 
         unfilled = cutting.unfilled;
         known = cutting.known;
         other = searched_bare p (marked less) s ended.searched;
-      },
-    )
-
-    -- none was: it goes, and the next search goes on from there
-    pub cut_goes : (s.free ≡ 0 → ⊥) → Helps (without_rules p) (marked s.left) (hints_of c)
-        → (marked less ≡ tried (feasible p) (marked c.active) k)
-        × Cutting p (record { active = less; stuck = s; known = c.known; other = c.other })
-    cut_goes more helps = (
-      goes s ended more,
-      record {
-        long = simp length-set cutting.long;
-        stuck = ended;
-        unfilled = omega (arith, more);
-        known = helps.known refl;
-        other = cutting.other;
       },
     )
 
@@ -169,6 +114,7 @@ module _ (p : Problem) (lawful : Lawful p) (n : ℕ) where
 -- an array that has the core's marks has them alone
 pub core-marked : (l : Lists) → Sound l → (marks : List Bool) → length marks ≡ max_rules
     → marked marks ≡ core_of (feasible (problem l)) (length l.rules) → marks ≡ core_marks l
+unfolding core_marks
 core-marked l sound marks long e =
     let m = length l.rules in
     let test = feasible (problem l) in

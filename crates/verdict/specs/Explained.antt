@@ -1,5 +1,5 @@
 -- The verdict on lists that adding has taken is correct, and so is what solving hands over. Assumes nothing.
-use Rattle.std.specs.Prelude.{◌≡◌, Bool, List, [], ◌∷◌, map, ◌↔◌, ℕ, ◌≤◌, ◌<◌, T, length, get_or, take}
+use Rattle.std.specs.Prelude.{is_some, Result, Ok, Err, Option, Some, None, ◌≡◌, Bool, List, [], ◌∷◌, map, ◌↔◌, ℕ, ◌≤◌, ◌<◌, T, length, get_or, take}
 use Rattle.std.proofs.Math.Path.{refl}
 use Rattle.std.proofs.Common.{sym, ap, subst, ◌∙◌, inl, inr, arith, lt→ltb}
 use Rattle.std.proofs.Math.Bool.{true, false}
@@ -15,16 +15,16 @@ use Rattle.taskset.specs.Refusals.{max_tasks, max_rules}
 use Rattle.taskset.specs.Model.{Lists, task_at, Sound}
 use Rattle.taskset.specs.Adding.{lists}
 use Rattle.taskset.specs.Passing.{Sized, passed}
-use Rattle.response.specs.declared.Response.{Response}
-use Rattle.response.specs.declared.Response.TheVariants.{Within, Late}
 use Rattle.response.specs.Equation.{demand, SaysResponse}
 use Rattle.response.specs.Agreement.{response_says}
 use Rattle.assignment.specs.Orders.{every_rule, no_rule, hp, ValidOrder}
-use Rattle.assignment.specs.Audsley.{is_within, assign, feasible, response_at, problem}
+use Rattle.assignment.specs.Audsley.{assign, feasible, response_at, problem}
 use Rattle.assignment.specs.Decision.{valid_fewer}
 use Rattle.assignment.proofs.Preemptive.{less-feasible, meets_exactly, feasible-order}
 use Rattle.assignment.specs.Search.{index, time}
-use Rattle.verdict.specs.declared.Answer.TheVariants.{Refused, Order, Core}
+use Rattle.taskset.specs.declared.refusals.Refusal.{Refusal}
+use Rattle.verdict.specs.declared.Finding.{Finding}
+use Rattle.verdict.specs.declared.Finding.TheVariants.{Order, Core}
 use Rattle.verdict.specs.declared.Verdict.{Verdict}
 use Rattle.verdict.specs.declared.Solved.{Solved}
 use Rattle.verdict.specs.Core.{core_of}
@@ -34,11 +34,11 @@ use Rattle.verdict.specs.Correct.{order_given, core_given, Correct, Explains}
 use Rattle.verdict.specs.Solving.{assign_valid, deciding_on, solving_made}
 
 -- an order is no core and no refusal
-pub order_not_core : Order ≡ Core → ⊥
-order_not_core e = let z : ◌≡◌ {A = ℕ} 0 1 = cc in omega arith
+pub order_not_core : ◌≡◌ {A = Result Finding Refusal} (Ok Order) (Ok Core) → ⊥
+order_not_core e = cc
 
-pub order_not_refused : (k : ℕ) → Refused k ≡ Order → ⊥
-order_not_refused k e = let z : ◌≡◌ {A = ℕ} 0 1 = cc in omega arith
+pub order_not_refused : (k : Refusal) → ◌≡◌ {A = Result Finding Refusal} (Err k) (Ok Order) → ⊥
+order_not_refused k e = cc
 
 unindex : (xs : List ℕ) → map (λ (t : TaskIndex). t.0) (map index xs) ≡ xs
 unindex [] = refl
@@ -86,20 +86,20 @@ module _ (l : Lists) (sound : Sound l) where
     valid = assign_valid l sound (first m) whole
 
     -- task i's response in the order, and what the equation says of it
-    abbrev own : ℕ → Response
+    abbrev own : ℕ → Option ℕ
     own i = response_at l.tasks i (hp order i)
 
     abbrev SaysAt : List ℕ → ℕ → ℕ → Type 0
-    SaysAt o i r = SaysResponse l.tasks i (hp o i) (task_at l.tasks i).deadline (Within r)
+    SaysAt o i r = SaysResponse l.tasks i (hp o i) (task_at l.tasks i).deadline (Some r)
 
-    says : (i : ℕ) → T (is_within (own i)) → SaysAt order i (time (own i))
+    says : (i : ℕ) → T (is_some (own i)) → SaysAt order i (time (own i))
     says i t =
         go (own i) t (response_says (demand l.tasks i (hp order i)) (task_at l.tasks i).jitter (task_at l.tasks i).deadline)
       where
-        go : (r : Response) → T (is_within r) → SaysResponse l.tasks i (hp order i) (task_at l.tasks i).deadline r
+        go : (r : Option ℕ) → T (is_some r) → SaysResponse l.tasks i (hp order i) (task_at l.tasks i).deadline r
             → SaysAt order i (time r)
-        go (Within r) t h = h
-        go Late t h = absurd t
+        go (Some r) t h = h
+        go None t h = absurd t
 
     order-responses : (k : ℕ) → k < n → SaysAt (order_given l answer) (get_or (order_given l answer) k 0) (get_or answer.responses k 0)
     order-responses k h =

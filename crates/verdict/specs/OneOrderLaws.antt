@@ -1,5 +1,5 @@
 -- The order that a verdict gives is the canonical one, and the only one. Assumes nothing.
-use Rattle.std.specs.Prelude.{◌≡◌, eqb, length}
+use Rattle.std.specs.Prelude.{Ok, ◌≡◌, eqb, length}
 use Rattle.std.proofs.Math.Path.{refl}
 use Rattle.std.proofs.Common.{sym, subst, lt→ltb}
 use Rattle.std.proofs.Math.Bool.{Bool, true, false}
@@ -15,7 +15,8 @@ use Rattle.assignment.specs.Canonical.{CanonicalOrder}
 use Rattle.assignment.proofs.CanonicalLaws.{canonical_unique, canonical_other}
 use Rattle.assignment.specs.Audsley.{assign, feasible, problem}
 use Rattle.assignment.proofs.Preemptive.{feasible_canonical, canonical_exactly}
-use Rattle.verdict.specs.declared.Answer.TheVariants.{Order}
+use Rattle.taskset.specs.declared.refusals.Refusal.TheVariants.{NoTasks, NotMade}
+use Rattle.verdict.specs.declared.Finding.TheVariants.{Order}
 use Rattle.verdict.specs.declared.Verdict.{Verdict}
 use Rattle.verdict.specs.declared.Solved.{Solved}
 use Rattle.verdict.specs.Core.{core_of}
@@ -27,11 +28,11 @@ use Rattle.verdict.specs.Explained.{order_not_core, order_not_refused, order-han
 
 module _ (l : Lists) where
   -- nothing is asked where no order is given
-  no_order : (v : Verdict) → (v.answer ≡ Order → ⊥) → OneOrder l v
+  no_order : (v : Verdict) → (v.answer ≡ Ok Order → ⊥) → OneOrder l v
   no_order v out = record { canonical = λ e. absurd (out e); only = λ e. absurd (out e); greatest = λ e. absurd (out e) }
 
   module _ (sound : Sound l) where
-    by_canonical : (v : Verdict) → (v.answer ≡ Order → CanonicalOrder l every_rule (order_given l v)) → OneOrder l v
+    by_canonical : (v : Verdict) → (v.answer ≡ Ok Order → CanonicalOrder l every_rule (order_given l v)) → OneOrder l v
     by_canonical v canonical =
         record {
           canonical = canonical;
@@ -60,12 +61,12 @@ module _ (l : Lists) where
     unfolding deciding
     deciding_one = go (eqb (length l.tasks) 0)
       where
-        go : (b : Bool) → OneOrder l (pick b (refused 13) (verdict_on l))
-        go true = no_order _ (order_not_refused 13)
+        go : (b : Bool) → OneOrder l (pick b (refused NoTasks) (verdict_on l))
+        go true = no_order _ (order_not_refused NoTasks)
         go false = verdict_one
 
 -- whatever set is solved
 pub solving_one : (s : TaskSet) → Sized s → (r : Solved) → r ≡ solving s → OneOrder (lists s) r.verdict
 solving_one s size r e =
     subst (λ (q : Solved). OneOrder (lists s) q.verdict) (sym e)
-    (solving_cases s size (OneOrder (lists s)) (no_order (lists s) (refused 14) (order_not_refused 14)) (deciding_one (lists s)))
+    (solving_cases s size (OneOrder (lists s)) (no_order (lists s) (refused NotMade) (order_not_refused NotMade)) (deciding_one (lists s)))

@@ -1,5 +1,5 @@
 -- What solving hands over, one law for each way it ends. Assumes nothing.
-use Rattle.std.specs.Prelude.{◌≡◌, refl, Bool, get_or, drop}
+use Rattle.std.specs.Prelude.{Ok, ◌≡◌, refl, Bool, get_or, drop}
 use Rattle.std.proofs.Common.{sym, subst, ◌∙◌, not-suc-le-zero, le_of_suc-le-suc, arith, ext_get_or, eq-eqb, ne_eqb}
 use Rattle.std.proofs.Math.Path.{ap, ap₂}
 use Rattle.std.proofs.Math.Bool.{true, false}
@@ -7,8 +7,9 @@ use mathlib.Core.List.{List, [], ◌∷◌, ◌++◌, map}
 use Prim.Native.Nat.{ℕ, zero, suc, ◌-◌, ◌<◌}
 use Rattle.std.proofs.Math.ListN.{length, replicate}
 use Rattle.std.proofs.lemmas.List.{length-map}
+use Rattle.std.proofs.lemmas.Bool.Decides.{nat_tests}
 use Rattle.sets.specs.Pad.{pad, map_at}
-use Rattle.sets.specs.Marks.{first}
+use Rattle.sets.specs.Marks.{first, marked}
 use Rattle.taskset.specs.declared.TaskIndex.{TaskIndex}
 use Rattle.taskset.specs.declared.TaskSet.{TaskSet}
 use Rattle.taskset.specs.Refusals.{max_tasks, max_rules}
@@ -18,11 +19,14 @@ use Rattle.taskset.specs.Passing.{Sized, passed}
 use Rattle.assignment.specs.declared.Search.{Search}
 use Rattle.assignment.specs.Orders.{hp, ValidOrder}
 use Rattle.assignment.specs.Audsley.{unassigned, assign, feasible, response_at, problem}
+use Rattle.assignment.specs.LateTasks.{unassignable}
 use Rattle.assignment.specs.Levels.{before_unassigned}
 use Rattle.assignment.specs.Decision.{filled_count, assign_filled, filled_valid}
 use Rattle.assignment.proofs.Preemptive.{lawful, valid_exactly}
+use Rattle.assignment.proofs.LateLaws.{none-unassignable}
 use Rattle.assignment.specs.Search.{index, time, responses, lowest, HoldsLevels}
-use Rattle.verdict.specs.declared.Answer.TheVariants.{Order, Core}
+use Rattle.taskset.specs.declared.refusals.Refusal.TheVariants.{NoTasks, NotMade}
+use Rattle.verdict.specs.declared.Finding.TheVariants.{Order, Core}
 use Rattle.verdict.specs.declared.Solved.{Solved}
 use Rattle.verdict.specs.declared.Verdict.{Verdict}
 use Rattle.verdict.specs.Core.{core_of}
@@ -31,7 +35,7 @@ use Rattle.verdict.specs.Verdict.{refused, responses_in, verdict_by, verdict_on,
 
 -- ---- refused or decided
 
-pub deciding_13 : (l : Lists) → length l.tasks ≡ 0 → refused 13 ≡ deciding l
+pub deciding_13 : (l : Lists) → length l.tasks ≡ 0 → refused NoTasks ≡ deciding l
 unfolding deciding
 deciding_13 l z = rw (eq-eqb (length l.tasks) 0 z)
 
@@ -39,7 +43,7 @@ pub deciding_on : (l : Lists) → (length l.tasks ≡ 0 → ⊥) → verdict_on 
 unfolding deciding
 deciding_on l some = rw (ne_eqb (length l.tasks) 0 some)
 
-pub solving_14 : (s : TaskSet) → is_made s ≡ false → record { verdict = refused 14; set = s } ≡ solving s
+pub solving_14 : (s : TaskSet) → is_made s ≡ false → record { verdict = refused NotMade; set = s } ≡ solving s
 unfolding solving
 solving_14 s e = rw e
 
@@ -48,7 +52,7 @@ unfolding solving
 solving_made s e = rw e
 
 -- so what holds of refusal 14, and of the verdict on the lists of a set that calls make, holds of any set's
-pub solving_cases : (s : TaskSet) → Sized s → (P : Verdict → Type 0) → P (refused 14) → (Sound (lists s) → P (deciding (lists s)))
+pub solving_cases : (s : TaskSet) → Sized s → (P : Verdict → Type 0) → P (refused NotMade) → (Sound (lists s) → P (deciding (lists s)))
     → P (solving s).verdict
 solving_cases s size P unmade made = go (is_made s) refl
   where
@@ -104,20 +108,27 @@ module _ (l : Lists) (sound : Sound l) (active : ℕ → Bool) where
         ∙ ap (λ (f : ℕ → Bool). verdict_by l (test f) (assign (problem l) f) (core_of test (length l.rules))) every
 
     pub gives_order : s.free ≡ 0
-        → record { answer = Order; order = s.order; responses = s.responses; core = replicate max_rules false } ≡ verdict_on l
+        → record { answer = Ok Order; order = s.order; responses = s.responses; core = replicate max_rules false } ≡ verdict_on l
     unfolding feasible
     gives_order z =
         let whole : length order ≡ n = omega (arith, z, holds.free, filled_count (problem l) active order (assign_filled (problem l) active)) in
-        ap₂ (λ (o : List TaskIndex) (r : List ℕ). record { answer = Order; order = o; responses = r; core = replicate max_rules false })
+        ap₂ (λ (o : List TaskIndex) (r : List ℕ). record { answer = Ok Order; order = o; responses = r; core = replicate max_rules false })
         (holds.order ∙ lowest_full n (index 0) (map index order) (length-map order index ∙ whole))
         (holds.responses
         ∙ lowest_full n 0 (responses (problem l) order) (holds.long ∙ whole)
         ∙ ap (pad max_tasks 0) (responses_in_lem whole holds.long))
         ∙ verdict_is true (eq-eqb (length order) n whole)
 
-    pub gives_core : (s.free ≡ 0 → ⊥) → (marks : List Bool) → marks ≡ core_marks l
-        → record { answer = Core; order = replicate max_tasks (index 0); responses = replicate max_tasks 0; core = marks } ≡ verdict_on l
-    unfolding feasible
-    gives_core more marks e =
-        ap (λ (c : List Bool). record { answer = Core; order = replicate max_tasks (index 0); responses = replicate max_tasks 0; core = c }) e
-        ∙ verdict_is false (ne_eqb (length order) n (λ h. more (omega (arith, h, holds.free))))
+-- ---- a core
+
+pub gives_core : (l : Lists) → length (assign (problem l) (first (length l.rules))) < length l.tasks
+    → record { answer = Ok Core; order = replicate max_tasks (index 0); responses = replicate max_tasks 0; core = core_marks l } ≡ verdict_on l
+unfolding verdict_on feasible core_marks
+gives_core l less = rw (ne_eqb (length (assign (problem l) (first (length l.rules)))) (length l.tasks) (λ e. omega (arith, e, less)))
+
+-- ---- what the check is given
+
+pub nobody_left : (l : Lists) → length l.tasks ≡ 0 → marked (replicate max_tasks false) ≡ unassignable l
+nobody_left l none = none-unassignable l none max_tasks
+
+pub ruleset refusing = (nat_tests, deciding_13, nobody_left)

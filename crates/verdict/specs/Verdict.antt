@@ -1,10 +1,12 @@
 -- Document 01, solving: the verdict on a list of tasks and a list of rules, and how it is handed over; refusals 14 and 13.
 -- Assumes nothing.
-use Rattle.std.specs.Prelude.{Bool, false, List, map, ℕ, eqb, length, replicate}
+use Rattle.std.specs.Prelude.{Err, Ok, Bool, false, List, map, ℕ, eqb, length, replicate}
 use Rattle.sets.specs.Choice.{pick}
 use Rattle.sets.specs.Pad.{pad}
 use Rattle.sets.specs.Marks.{first, table}
 use Rattle.taskset.specs.declared.TaskSet.{TaskSet}
+use Rattle.taskset.specs.declared.refusals.Refusal.{Refusal}
+use Rattle.taskset.specs.declared.refusals.Refusal.TheVariants.{NoTasks, NotMade}
 use Rattle.taskset.specs.Refusals.{max_tasks, max_rules}
 use Rattle.taskset.specs.Model.{Lists}
 use Rattle.taskset.specs.Adding.{is_made, lists}
@@ -13,7 +15,7 @@ use Rattle.assignment.specs.Audsley.{assign, feasible, response_at, problem}
 use Rattle.assignment.specs.Search.{index, time}
 use Rattle.verdict.specs.declared.Verdict.{Verdict}
 use Rattle.verdict.specs.declared.Solved.{Solved}
-use Rattle.verdict.specs.declared.Answer.TheVariants.{Refused, Order, Core}
+use Rattle.verdict.specs.declared.Finding.TheVariants.{Order, Core}
 use Rattle.verdict.specs.Core.{core_of}
 
 -- ---- how it is handed over: unused ends are 0; on a core both lists are all 0, on an order the marks are all no
@@ -21,7 +23,7 @@ use Rattle.verdict.specs.Core.{core_of}
 abbrev pub ordered : List ℕ → List ℕ → Verdict
 ordered order times =
     record {
-      answer = Order;
+      answer = Ok Order;
       order = pad max_tasks (index 0) (map index order);
       responses = pad max_tasks 0 times;
       core = replicate max_rules false;
@@ -30,16 +32,16 @@ ordered order times =
 abbrev pub cored : List Bool → Verdict
 cored marks =
     record {
-      answer = Core;
+      answer = Ok Core;
       order = replicate max_tasks (index 0);
       responses = replicate max_tasks 0;
       core = pad max_rules false marks;
     }
 
-abbrev pub refused : ℕ → Verdict
+abbrev pub refused : Refusal → Verdict
 refused k =
     record {
-      answer = Refused k;
+      answer = Err k;
       order = replicate max_tasks (index 0);
       responses = replicate max_tasks 0;
       core = replicate max_rules false;
@@ -63,8 +65,8 @@ verdict_on l =
 
 -- 13 first
 unfoldable pub deciding : Lists → Verdict
-deciding l = pick (eqb (length l.tasks) 0) (refused 13) (verdict_on l)
+deciding l = pick (eqb (length l.tasks) 0) (refused NoTasks) (verdict_on l)
 
 -- 14 before it; the set is handed back
 unfoldable pub solving : TaskSet → Solved
-solving s = record { verdict = pick (is_made s) (deciding (lists s)) (refused 14); set = s }
+solving s = record { verdict = pick (is_made s) (deciding (lists s)) (refused NotMade); set = s }

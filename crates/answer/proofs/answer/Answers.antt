@@ -1,43 +1,53 @@
--- What was read fits its arrays and is sound, and the verdict on it is shown. Assumes nothing.
-use Rattle.std.specs.Prelude.{◌≡◌}
-use Rattle.std.proofs.Common.{ap, sym, subst, arith}
-use Rattle.std.proofs.lemmas.List.{length-take-le}
-use Rattle.taskset.specs.Model.{Sound}
-use Rattle.text.specs.declared.Counts.{Counts}
+-- A text that is read holds sound lists, whose verdict is shown.
+use Rattle.std.proofs.Common.{◌≡◌, Ok, sym, ap, ◌∙◌}
+use Rattle.std.proofs.lemmas.Result.{err_from_is_err_and}
+use Rattle.taskset.specs.Adding.{lists}
+use Rattle.taskset.specs.Views.{lists_of}
+use Rattle.taskset.specs.Holding.{lists-holding}
 use Rattle.text.specs.Text.{reading}
-use Rattle.text.specs.Asking.{reading_sound, counts_few}
-use Rattle.answer.specs.Answering.{answer_shown}
+use Rattle.text.specs.Asking.{reading_sound}
+use Rattle.listing.specs.Listing.{outcome}
+use Rattle.answer.specs.Answer.{answer_to}
+use Rattle.answer.specs.Answering.{read_shown, listed_said, refused_said, listed_gives}
 use Rattle.answer.proofs.answer.Goals as goal
+use Rattle.answer.proofs.answer.Goals.{After-show}
 
-pub overflow_mul-tasks : goal.overflow_mul-tasks
-overflow_mul-tasks c = omega (arith, counts_few c.args.text.now c.read_words-read.ensures.value)
+pub system-system-requires-clause-counts : goal.system-system-requires-clause-counts
+system-system-requires-clause-counts c =
+    let s = reading_sound c.args.text.now in rw c.in_ok-hear_lines.ensures.set (s.tasks.few, s.few_rules)
 
-pub slice_bounds-tasks-end : goal.slice_bounds-tasks-end
-slice_bounds-tasks-end c = omega (arith, counts_few c.args.text.now c.read_words-read.ensures.value)
+pub system-system-requires-clause-sound : goal.system-system-requires-clause-sound
+system-system-requires-clause-sound c =
+    rw (c.in_ok-hear_lines.ensures.set, lists-holding (reading c.args.text.now).lists) (reading_sound c.args.text.now)
 
-pub slice_bounds-rows-end : goal.slice_bounds-rows-end
-slice_bounds-rows-end c = sym (length-take-le _ _ (omega (arith, counts_few c.args.text.now c.read_words-read.ensures.value)))
+read : (c : After-show) → (reading c.args.text.now).answer ≡ Ok c.in_ok-hear_lines.field-0
+read c = sym c.hear_lines.ensures.answer ∙ c.in_ok-hear_lines.was
 
-pub overflow_mul-list : goal.overflow_mul-list
-overflow_mul-list c = omega (arith, counts_few c.args.text.now c.read_words-read.ensures.value)
+same : (c : After-show) → outcome (lists_of c.system-system.result) c.decide-decided.result.verdict ≡ answer_to c.args.text.now
+same c =
+    read_shown c.args.text.now c.args.out.now (read c)
+    (c.system-system.ensures ∙ ap lists c.in_ok-hear_lines.ensures.set ∙ lists-holding (reading c.args.text.now).lists)
+    c.decide-decided.ensures.verdict_value
 
-pub slice_bounds-list-end : goal.slice_bounds-list-end
-slice_bounds-list-end c = omega (arith, counts_few c.args.text.now c.read_words-read.ensures.value)
+-- so it is refused
+pub returns-in_err-count-clause-value : goal.returns-in_err-count-clause-value
+returns-in_err-count-clause-value c =
+    let at = (goal.at.returns-in_err-count-clause-value c).After-show in
+    let p = err_from_is_err_and c.from_residual-in_err-count.result c.from_residual-in_err-count.ensures.1 in
+    rw (p.1, p.2) (refused_said c.args.text.now c.args.out.now (read at) (sym c.in_err-count.was ∙ rw (same at) at at.show.ensures.value))
 
-pub slice_bounds-rules-end : goal.slice_bounds-rules-end
-slice_bounds-rules-end c = sym (length-take-le _ _ (omega (arith, counts_few c.args.text.now c.read_words-read.ensures.value)))
+pub returns-in_err-count-clause-bytes : goal.returns-in_err-count-clause-bytes
+returns-in_err-count-clause-bytes c =
+    let at = (goal.at.returns-in_err-count-clause-bytes c).After-show in rw (same at) at at.show.ensures.bytes
 
-pub decide-decided-requires : goal.decide-decided-requires
-decide-decided-requires c = subst Sound (sym c.read_words-read.ensures.lists) (reading_sound c.args.text.now)
+-- or listed
+pub returns-clause-value : goal.returns-clause-value
+returns-clause-value c =
+    let at = (goal.at.returns-clause-value c).After-show in
+    listed_said c.args.text.now c.args.out.now (read at) (sym c.in_ok-count.was ∙ rw (same at) at at.show.ensures.value)
 
-pub show-shown-requires-clause-sound : goal.show-shown-requires-clause-sound
-show-shown-requires-clause-sound c = subst Sound (sym c.read_words-read.ensures.lists) (reading_sound c.args.text.now)
+pub returns-clause-bytes : goal.returns-clause-bytes
+returns-clause-bytes c = let at = (goal.at.returns-clause-bytes c).After-show in rw (same at) at at.show.ensures.bytes
 
 pub returns-clause-gives : goal.returns-clause-gives
-returns-clause-gives c =
-    let read = c.read_words-read.ensures in
-    let good : (reading c.args.text.now).refusal ≡ 0 = omega (arith, ap (λ (r : Counts). r.refusal) read.value) in
-    let line = ap (λ (r : Counts). r.line) read.value in
-    let shown = c.show-shown.ensures in
-    (answer_shown c.args.text.now c.args.out.now good _ read.lists _ line _ c.decide-decided.ensures.verdict_value
-    c.show-shown.result _ (shown.value, shown.bytes)).1.1
+returns-clause-gives c = listed_gives c.args.text.now c.args.out.now (returns-clause-value c) (returns-clause-bytes c)

@@ -1,28 +1,15 @@
--- The bytes so far are the digits of the value so far.
-use Rattle.std.proofs.Common.{arith}
+-- The first byte is a digit, and so is the next.
+use Rattle.std.proofs.Common.{sym, ◌∙◌, arith}
+use Rattle.std.proofs.lemmas.List.{take_rest}
 use Rattle.lines.specs.Reading.{first_read, read_more}
-use Rattle.lines.specs.Reading.{read_empty, first_stray, read_last, read_over, read_stray}
 use Rattle.lines.proofs.number_from.Goals as goal
 
-pub returns-then-n-at : goal.returns-then-n-at
-returns-then-n-at c = read_empty _ _ c.if-n-at.true
+pub loop-more-init : goal.loop-more-init
+loop-more-init c =
+    first_read c.args.line.now c.args.at
+    (sym (take_rest c.args.line.now c.args.at) ∙ sym c.in_ok-get.ensures.lookup.0.2 ∙ c.in_ok-first.ensures.cases.0)
+    c.in_ok-value.ensures
 
-pub returns-then-first : goal.returns-then-first
-returns-then-first c = first_stray c.args.line.now c.args.at c.wide-first.ensures (omega arith) c.if-first.true
-
-pub loop-end-init : goal.loop-end-init
-loop-end-init c = first_read _ _ c.wide-first.ensures (omega arith) c.if-first.false
-
-pub returns-then-value : goal.returns-then-value
-returns-then-value c = read_over c.loop-end.invariant (omega arith) (omega arith) c.if-value.true
-
-pub returns-then-digit : goal.returns-then-digit
-returns-then-digit c =
-    read_stray c.loop-end.invariant (omega arith) (omega arith) c.wide-digit.ensures c.if-digit.true
-
-pub loop-end-preserved : goal.loop-end-preserved
-loop-end-preserved c =
-    read_more c.loop-end.invariant (omega arith) (omega arith) c.wide-digit.ensures c.if-value.false c.if-digit.false
-
-pub returns : goal.returns
-returns c = read_last c.loop-end.invariant (omega arith)
+pub loop-more-preserved : goal.loop-more-preserved
+loop-more-preserved c =
+    read_more c.loop-more.invariant c.loop-more-test.true (omega arith) (omega arith) (omega arith) c.in_ok-value-2.ensures

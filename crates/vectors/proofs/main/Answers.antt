@@ -3,11 +3,11 @@ use Rattle.std.proofs.Common.{ℕ, sym}
 use Rattle.std.proofs.lemmas.List.{length-replicate}
 use Rattle.vectors.proofs.main.Goals as goal
 
-pub slice_bounds-read_full-end : goal.slice_bounds-read_full-end
-slice_bounds-read_full-end c = sym (length-replicate {A = ℕ} 524288 0)
+pub slice_bounds-fill-end : goal.slice_bounds-fill-end
+slice_bounds-fill-end c = sym (length-replicate {A = ℕ} 524288 0)
 
 pub slice_bounds-texts-end : goal.slice_bounds-texts-end
-slice_bounds-texts-end c = c.read_full-n.ensures.within
+slice_bounds-texts-end c = c.fill-filled.ensures.within
 
 pub slice_bounds-answer_all-end : goal.slice_bounds-answer_all-end
-slice_bounds-answer_all-end c = c.read_full-n.ensures.front
+slice_bounds-answer_all-end c = c.fill-filled.ensures.front

@@ -1,27 +1,18 @@
--- `response::blocking::is_shared` meets its contract: at the end none of all tasks uses a resource.
-use Rattle.std.proofs.Common.{ℕ, T, sym, ◌∙◌, arith, below_more, below_none}
-use Rattle.sets.specs.Choice.{true→T}
+-- `response::blocking::is_shared` meets its contract: where no task uses a resource, none is used from the first on.
+use Rattle.std.proofs.Common.{◌∙◌, sym, not, rules, tests}
+use Rattle.std.proofs.lemmas.Iterator.{YieldsList-from_slice}
+use Rattle.std.proofs.lemmas.Iterator.Search.{any_from_yields_List}
+use Rattle.sets.specs.Bounded.{list_any-any}
+use Rattle.taskset.specs.Model.{no_task}
 use Rattle.taskset.specs.Refusals.{uses_none}
-use Rattle.taskset.specs.Model.{task_at}
-use Rattle.taskset.specs.Words.{tasks_in}
-use Rattle.taskset.specs.WordsLaws.{tasks_length}
-use Rattle.taskset.specs.RefusalLaws.{none_used}
+use Rattle.response.proofs.ResourcesLaws.{unused_all}
 use Rattle.response.proofs.blocking.is_shared.Goals as goal
 
-pub loop-j-init : goal.loop-j-init
-loop-j-init c = record { in_range = omega arith; free = below_none _ }
-
-pub task_in-requires : goal.task_in-requires
-task_in-requires c = omega (arith, tasks_length c.args.rows.now)
-
-pub loop-j-preserved : goal.loop-j-preserved
-loop-j-preserved c =
-    let tasks = tasks_in c.args.rows.now in
-    let here : T (uses_none (task_at tasks c.loop-j.j)) =
-    true→T (uses_none (task_at tasks c.loop-j.j)) (rw (← c.task_in.ensures) (sym c.uses_none.ensures ∙ c.if-not-uses_none.false)) in
-    record { in_range = omega arith; free = below_more (λ (q : ℕ). T (uses_none (task_at tasks q))) c.loop-j.j c.loop-j.invariant.free here }
-
 pub returns : goal.returns
-returns c off j k h over known =
-    let long = tasks_length c.args.rows.now in
-    none_used _ (c.loop-j.invariant.free j (omega arith)) k known
+returns c e =
+    let tasks = c.args.tasks.now in
+    unused_all tasks
+    (sym
+    (any_from_yields_List (λ t. not (uses_none t)) _ _ _ c.any.ensures.ran (YieldsList-from_slice tasks cc) (λ x b q k. search (rules, tests))
+    ∙ list_any-any (λ t. not (uses_none t)) tasks no_task)
+    ∙ e)

@@ -1,0 +1,134 @@
+// The climb to a response window over a load: from its demand at 1, by its demand, and every sixth round by leaps.
+
+ghost use Rattle.std.specs.Prelude.{◌≡◌, ◌≤◌};
+ghost use Rattle.taskset.specs.Refusals.{max_period, InRanges};
+ghost use Rattle.response.specs.Equation.{interference, window_of};
+ghost use Rattle.response.specs.Load.{Bounds, part_of, bound_of};
+ghost use Rattle.response.specs.Views.{demand_in};
+
+use crate::Load;
+use taskset::{MAX_PERIOD, Task};
+
+// 2³²: a load of this many parts is the whole processor.
+const SCALE: u64 = 4294967296;
+
+// What a task adds to a bound, in parts of SCALE: once, and for each microsecond of the window.
+#[derive(Clone, Copy)]
+pub struct Part {
+    pub fixed: u64,
+    pub rate: u64,
+}
+
+// ⌈(w + J) / T⌉ × C
+#[tactic(auto, using(crate::proofs::Demand::div_ceil_is), unfolding(crate::specs::Equation::interference))]
+fn interference(t: &Task, w: u64) -> u64
+    requires in_ranges { InRanges t.now }
+    requires w_le_max_period { w ≤ max_period }
+    ensures { result ≡ interference t.now w }
+{
+    (w + t.jitter).div_ceil(t.period) * t.execution
+}
+
+// What a task adds to a bound on every window from w on: its rate, and that over its jitter, where what it brings at w does
+// not last until `reach`; else what it brings at w.
+#[tactic(auto, using(crate::proofs::Demand::div_ceil_is), unfolding(crate::specs::Load::fixed_part, crate::specs::Load::rate_part))]
+fn part_at(t: &Task, w: u64, reach: u64) -> Part
+    requires in_ranges { InRanges t.now }
+    requires w_le_max_period { w ≤ max_period }
+    ensures { result ≡ part_of t.now w reach }
+{
+    let releases = (w + t.jitter).div_ceil(t.period);
+    if releases * t.period - t.jitter < reach {
+        let rate = t.execution * SCALE / t.period;
+        return Part {
+            fixed: rate * t.jitter,
+            rate,
+        };
+    }
+    Part {
+        fixed: releases * t.execution * SCALE,
+        rate: 0,
+    }
+}
+
+// The least v with fixed ≤ v × (SCALE − rate); where there is none, a number beyond every limit.
+#[tactic(auto, using(crate::proofs::Demand::div_ceil_is), unfolding(crate::specs::Load::bound_of))]
+fn bound(fixed: u64, rate: u64) -> u64
+    ensures { result ≡ bound_of fixed rate }
+{
+    if SCALE <= rate {
+        return MAX_PERIOD + 1;
+    }
+    fixed.div_ceil(SCALE - rate)
+}
+
+impl Load<'_> {
+    // demand(w)
+    #[tactic(auto, using(crate::proofs::Demand::load_steps))]
+    fn demand(&self, w: u64) -> u64
+        requires { w ≤ max_period }
+        ensures { result ≡ demand_in self.now w }
+    {
+        let mut sum = self.base;
+        for &j in self.kept {
+            sum += interference(&self.tasks.list[usize::from(j)], w);
+        }
+        sum
+    }
+
+    // From bounds w and reach on every window, one that is no lower than reach.
+    #[tactic(auto, using(crate::proofs::LeapLaws::leap_steps))]
+    fn leap(&self, w: u64, reach: u64) -> u64
+        requires w_le_max_period { w ≤ max_period }
+        requires bounds_w { Bounds (demand_in self.now) w }
+        requires bounds_reach { Bounds (demand_in self.now) reach }
+        ensures lower_bound { reach ≤ result }
+        ensures bounds { Bounds (demand_in self.now) result }
+    {
+        let mut fixed = self.base * SCALE;
+        let mut rate = 0;
+        for &j in self.kept {
+            let part = part_at(&self.tasks.list[usize::from(j)], w, reach);
+            fixed += part.fixed;
+            rate += part.rate;
+        }
+        bound(fixed, rate).max(reach)
+    }
+
+    // Where the climb goes on from w, whose demand is `needed`: there, or by three leaps from there.
+    fn next(&self, w: u64, needed: u64, leaps: bool) -> u64
+        requires w_le_max_period { w ≤ max_period }
+        requires bounds_w { Bounds (demand_in self.now) w }
+        requires bounds_needed { Bounds (demand_in self.now) needed }
+        ensures lower_bound { needed ≤ result }
+        ensures bounds { Bounds (demand_in self.now) result }
+    {
+        if leaps {
+            let near = self.leap(w, needed);
+            let far = self.leap(w, near);
+            return self.leap(w, far);
+        }
+        needed
+    }
+
+    // The window, climbed to from the demand at 1. Every sixth round leaps. Document 01 has this loop, which yields by `break`.
+    pub fn climb(&self, start: u64, room: u64) -> Option<u64>
+        requires room_le_max_period { room ≤ max_period }
+        requires start_value { start ≡ demand_in self.now 1 }
+        ensures { result ≡ window_of (demand_in self.now) room }
+    {
+        let mut w = start;
+        let mut round = 0u64;
+        loop {
+            if room < w {
+                break None;
+            }
+            let needed = self.demand(w);
+            if needed <= w {
+                break Some(w);
+            }
+            w = self.next(w, needed, round == 5);
+            round = (round + 1) % 6;
+        }
+    }
+}

@@ -66,7 +66,7 @@ pub fn late_response(
 pub fn passing(tasks: Tasks<'_>, left: &[bool; MAX_TASKS]) -> [bool; MAX_TASKS]
     ensures { Known (bare tasks.entry.list.now) (marked left.now) (marked result) }
 {
-    let blocking = level_blocking(tasks, left);
+    let blocking = level_blocking(tasks.list, left);
     let mut known = [false; MAX_TASKS];
     for j in 0..tasks.list.len() {
         if left[j] {

@@ -105,9 +105,9 @@ pub fn fill_levels(
     ensures helps { Helps (bare system.entry.tasks.now) (marked result.left) hints.entry }
     ensures assigns { hints.entry ≡ None → Assigns (problem (lists_of system.entry)) (marked active.now) from result }
 {
-    let tasks = system.tasks();
+    let tasks = system.without_rules();
     let mut search = from;
-    let mut resources = Resources::at(tasks, &search.left);
+    let mut resources = Resources::at(tasks.list, &search.left);
     let mut blocking = resources.blocking();
     // No `for`: the count of free levels is the search's own, and falls where a task takes a level.
     while 0 < search.free {
@@ -123,7 +123,7 @@ pub fn fill_levels(
         };
         search.place(choice);
         if 0 < resources.used {
-            resources.take(tasks, choice.task);
+            resources.take(tasks.list, choice.task);
             blocking = resources.blocking();
         }
     }

@@ -97,7 +97,7 @@ fn late_lines(left: &[bool; MAX_TASKS], tasks: Tasks<'_>, lines: &mut [[u64; LAT
     ensures value { result ≡ length (late_lines tasks.entry.list.now (marked left.now)) }
     ensures lines { take result lines.new ≡ late_lines tasks.entry.list.now (marked left.now) }
 {
-    let blocking = level_blocking(tasks, left);
+    let blocking = level_blocking(tasks.list, left);
     let line = move |k: usize| -> [u64; LATE_WIDTH]
         requires task { k < length tasks.list.now }
         requires blocks { blocking ≡ blocking_of tasks.list.now k (without (marked left.now) k) }
@@ -152,7 +152,7 @@ pub fn show(decided: &Decided, system: System<'_>, out: &mut [u8]) -> Result<usi
             let mut lines = [[0u64; WIDTH]; MAX_RULES];
             let mut late = [[0u64; LATE_WIDTH]; MAX_TASKS];
             let count = rule_lines(&decided.verdict.core, system.rules, &mut lines);
-            let late_count = late_lines(&decided.left, system.tasks(), &mut late);
+            let late_count = late_lines(&decided.left, system.without_rules(), &mut late);
             write(b"core\t", &lines[..count], &late[..late_count], out)
         }
     }

@@ -3,12 +3,12 @@
 ghost use Rattle.std.specs.Prelude.{◌≡◌, Bool, false, ℕ, ◌≤◌, ◌<◌, T, length};
 ghost use Rattle.sets.specs.Bounded.{any, without};
 ghost use Rattle.sets.specs.Marks.{marked};
-ghost use Rattle.taskset.specs.Refusals.{resources};
+ghost use Rattle.taskset.specs.Refusals.{max_tasks, resources};
 ghost use Rattle.taskset.specs.Model.{task_at};
 ghost use Rattle.response.specs.Blocking.{uses};
 ghost use Rattle.response.specs.Resources.{BlocksEach, UnusedFrom, usage_of, Tracks, blocking_by};
 
-use taskset::{MAX_TASKS, RESOURCES, Task, TaskIndex, Tasks};
+use taskset::{MAX_TASKS, RESOURCES, Task, TaskIndex};
 
 // Of a resource: how many of the tasks left use it, and the longest section on it of those that have a level.
 #[derive(Clone, Copy, Default)]
@@ -57,12 +57,13 @@ fn used_resources(tasks: &[Task]) -> usize
 }
 
 // How many of the tasks left use a resource, and the longest section on it of those that have a level.
-fn usage_on(tasks: Tasks<'_>, left: &[bool; MAX_TASKS], resource: usize) -> Usage
-    requires { resource < resources }
-    ensures { result ≡ usage_of tasks.entry.list.now (marked left.now) resource }
+fn usage_on(tasks: &[Task], left: &[bool; MAX_TASKS], resource: usize) -> Usage
+    requires few_tasks { length tasks.now ≤ max_tasks }
+    requires resource_in_bounds { resource < resources }
+    ensures { result ≡ usage_of tasks.now (marked left.now) resource }
 {
     let mut usage = Usage::default();
-    for (t, is_left) in tasks.list.iter().zip(left) {
+    for (t, is_left) in tasks.iter().zip(left) {
         let section = t.section(resource);
         if *is_left {
             usage.users += u64::from(0 < section);
@@ -75,10 +76,11 @@ fn usage_on(tasks: Tasks<'_>, left: &[bool; MAX_TASKS], resource: usize) -> Usag
 
 impl Resources {
     // What is kept where these tasks are left.
-    pub fn at(tasks: Tasks<'_>, left: &[bool; MAX_TASKS]) -> Resources
-        ensures { Tracks tasks.entry.list.now (marked left.now) result }
+    pub fn at(tasks: &[Task], left: &[bool; MAX_TASKS]) -> Resources
+        requires { length tasks.now ≤ max_tasks }
+        ensures { Tracks tasks.now (marked left.now) result }
     {
-        let used = used_resources(tasks.list);
+        let used = used_resources(tasks);
         let mut all = [Usage::default(); RESOURCES];
         for (k, kept) in all[..used].iter_mut().enumerate() {
             *kept = usage_on(tasks, left, k);
@@ -87,13 +89,13 @@ impl Resources {
     }
 
     // A task left takes a level.
-    pub fn take(&mut self, tasks: Tasks<'_>, task: TaskIndex)
-        requires task_in_bounds { task.0 < length tasks.list.now }
-        requires tracks { (left : ℕ → Bool) × T (left task.0) × Tracks tasks.list.now left self.old }
-        ensures { (left : ℕ → Bool) → T (left task.0) → Tracks tasks.entry.list.now left self.old
-            → Tracks tasks.entry.list.now (without left task.0) self.new }
+    pub fn take(&mut self, tasks: &[Task], task: TaskIndex)
+        requires task_in_bounds { task.0 < length tasks.now }
+        requires tracks { (left : ℕ → Bool) × T (left task.0) × Tracks tasks.now left self.old }
+        ensures { (left : ℕ → Bool) → T (left task.0) → Tracks tasks.now left self.old
+            → Tracks tasks.now (without left task.0) self.new }
     {
-        let t = &tasks.list[task.0];
+        let t = &tasks[task.0];
         for (k, kept) in self.usage[..self.used].iter_mut().enumerate() {
             let section = t.section(k);
             kept.users -= u64::from(0 < section);
@@ -118,8 +120,9 @@ impl Resources {
 
 // The blocking of each task left, with the others that are left above it.
 #[tactic(auto, using(crate::proofs::ResourcesLaws::blocking_level))]
-pub fn level_blocking(tasks: Tasks<'_>, left: &[bool; MAX_TASKS]) -> u64
-    ensures { BlocksEach tasks.entry.list.now (marked left.now) (marked left.now) result }
+pub fn level_blocking(tasks: &[Task], left: &[bool; MAX_TASKS]) -> u64
+    requires { length tasks.now ≤ max_tasks }
+    ensures { BlocksEach tasks.now (marked left.now) (marked left.now) result }
 {
     Resources::at(tasks, left).blocking()
 }

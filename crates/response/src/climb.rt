@@ -10,7 +10,7 @@ use crate::Load;
 use taskset::{MAX_PERIOD, Task};
 
 // 2³²: a load of this many parts is the whole processor.
-const SCALE: u64 = 4294967296;
+const SCALE: u64 = 1 << 32;
 
 // What a task adds to a bound, in parts of SCALE: once, and for each microsecond of the window.
 #[derive(Clone, Copy)]

@@ -239,6 +239,22 @@ impl TaskSet {
             && self.rules[m..].iter().all(Rule::is_blank)
     }
 
+    // Its tasks.
+    pub fn task_list(&self) -> &[Task]
+        requires { self.now.ntasks ≤ max_tasks }
+        ensures { result.now ≡ (lists self.now).tasks }
+    {
+        &self.tasks[..self.ntasks]
+    }
+
+    // Its rules.
+    pub fn rule_list(&self) -> &[Rule]
+        requires { self.now.nrules ≤ max_rules }
+        ensures { result.now ≡ (lists self.now).rules }
+    {
+        &self.rules[..self.nrules]
+    }
+
     // Its lists, of which adding has taken every entry.
     pub fn system(&self) -> System<'_>
         requires counts { (self.now.ntasks ≤ max_tasks) × (self.now.nrules ≤ max_rules) }
@@ -246,8 +262,8 @@ impl TaskSet {
         ensures { lists_of result ≡ lists self.now }
     {
         System {
-            tasks: &self.tasks[..self.ntasks],
-            rules: &self.rules[..self.nrules],
+            tasks: self.task_list(),
+            rules: self.rule_list(),
         }
     }
 

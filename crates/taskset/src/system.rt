@@ -22,7 +22,7 @@ pub struct System<'a> {
 
 impl<'a> System<'a> {
     // Its tasks alone.
-    pub fn tasks(self) -> Tasks<'a>
+    pub fn without_rules(self) -> Tasks<'a>
         ensures { result.list.now ≡ self.entry.tasks.now }
     {
         Tasks { list: self.tasks }

@@ -12,7 +12,7 @@ use lines::TAB;
 use lines::reader::Reader;
 use taskset::{Call, RULE_NUMBERS, Refusal, Rule, TASK_NUMBERS, Task, TaskSet};
 
-pub const MAX_TEXT: usize = 16384;
+pub const MAX_TEXT: usize = 16_384;
 
 // The letters of the lines that add a task and a rule.
 const TASK_LETTER: u8 = b't';
@@ -88,7 +88,7 @@ pub fn hear_lines(text: &[u8], set: &mut TaskSet) -> Result<(), RefusedAt>
     }
     let mut reader = Reader::stand(text, 0);
     let mut line = 1u64;
-    // No `for` over the lines: the text's end is not a last line that no line feed ends.
+    // No `for` over the lines: document 01 has a reader with a position, and a line that no line feed ends is no line.
     while reader.at < text.len() {
         let unreadable = RefusedAt {
             line,

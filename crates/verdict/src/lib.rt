@@ -122,7 +122,7 @@ fn core(system: System<'_>, active: [bool; MAX_RULES], stuck: Search) -> Unsched
     if system.rules.is_empty() {
         return Unschedulable { core: none, left };
     }
-    let known = passing(system.tasks(), &left);
+    let known = passing(system.without_rules(), &left);
     let hints = Hints {
         known: &known,
         other: &stuck,

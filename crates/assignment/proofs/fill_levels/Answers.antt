@@ -21,19 +21,19 @@ use Rattle.assignment.proofs.fill_levels.Goals.{In-Some}
 
 -- who was told is one of the tasks left
 taker : (c : In-Some) → let t = c.in-Some.choice.task.0 in
-    (t < length c.tasks-tasks.result.list.now) × T (marked c.loop-search.search.left t)
+    (t < length c.without_rules-tasks.result.list.now) × T (marked c.loop-search.search.left t)
 taker c = taker_left c.loop-search.invariant.going (omega arith) _ c.ready-ready.ensures c.taker.ensures c.in-Some.choice c.in-Some.is
 
 -- after its level the search is on its way, and the blocking is that of the tasks left
 next : (c : In-Some) {s : Search} → s ≡ placed c.loop-search.search c.in-Some.choice → {r : Resources}
-    → Tracks c.tasks-tasks.result.list.now (without (marked c.loop-search.search.left) c.in-Some.choice.task.0) r → {b : ℕ} → b ≡ blocking_by r
+    → Tracks c.without_rules-tasks.result.list.now (without (marked c.loop-search.search.left) c.in-Some.choice.task.0) r → {b : ℕ} → b ≡ blocking_by r
     → record {
-      going : Going (problem (record { tasks = c.tasks-tasks.result.list.now; rules = c.args.system.rules.now })) (marked c.args.active.now) c.args.hints c.args.from s;
-      tracks : Tracks c.tasks-tasks.result.list.now (marked s.left) r;
+      going : Going (problem (record { tasks = c.without_rules-tasks.result.list.now; rules = c.args.system.rules.now })) (marked c.args.active.now) c.args.hints c.args.from s;
+      tracks : Tracks c.without_rules-tasks.result.list.now (marked s.left) r;
       charged : b ≡ blocking_by r;
     }
 next c placed_is kept same =
-    let tasks = c.tasks-tasks.result.sound in
+    let tasks = c.without_rules-tasks.result.sound in
     let going = c.loop-search.invariant.going in
     rw placed_is
     (record {
@@ -62,7 +62,7 @@ invariant_of-level c =
 
 pub returns-in_default : goal.returns-in_default
 returns-in_default c =
-    says _ c.args.system.sound c.tasks-tasks.ensures
+    says _ c.args.system.sound c.without_rules-tasks.ensures
     (going_stuck c.loop-search.invariant.going (omega arith) _ c.ready-ready.ensures c.taker.ensures c.in_default.is)
 
 pub take-requires-clause-tracks : goal.take-requires-clause-tracks
@@ -86,4 +86,4 @@ loop-search-preserved c =
     next some c.place.ensures (tracks_unused inv.tracks _ was.0 was.1 c.if-resources-gt0.false) inv.charged
 
 pub returns : goal.returns
-returns c = says _ c.args.system.sound c.tasks-tasks.ensures (going_full c.loop-search.invariant.going (omega arith))
+returns c = says _ c.args.system.sound c.without_rules-tasks.ensures (going_full c.loop-search.invariant.going (omega arith))

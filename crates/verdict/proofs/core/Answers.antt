@@ -47,7 +47,7 @@ fill_levels-other-requires-clause-searched c =
 pub fill_levels-other-requires-clause-helped : goal.fill_levels-other-requires-clause-helped
 fill_levels-other-requires-clause-helped c =
     record {
-      known = known_own c.tasks.ensures _ _ c.passing-known.ensures;
+      known = known_own c.without_rules.ensures _ _ c.passing-known.ensures;
       other = searched_bare (problem (lists_of c.args.system)) _ _ c.requires.ended.searched;
     }
 
@@ -57,7 +57,7 @@ cut_down-core-requires-clause-cutting c =
       long = search rules;
       stuck = c.requires.ended;
       unfilled = c.requires.le_free;
-      known = known_own c.tasks.ensures _ _ c.passing-known.ensures;
+      known = known_own c.without_rules.ensures _ _ c.passing-known.ensures;
       other = searched_bare (problem (lists_of c.args.system)) _ _ c.fill_levels-other.ensures.ended.searched;
     }
 

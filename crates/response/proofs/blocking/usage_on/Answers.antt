@@ -11,9 +11,9 @@ use Rattle.response.proofs.blocking.usage_on.Goals.{In-Some}
 
 -- the turn's task and its mark
 turn : (c : In-Some) → let n = length c.loop-t.yielded in
-    (n < length c.args.tasks.list.now) × (c.in-Some.t.now ≡ task_at c.args.tasks.list.now n) × (c.in-Some.is_left.now ≡ marked c.args.left.now n)
+    (n < length c.args.tasks.now) × (c.in-Some.t.now ≡ task_at c.args.tasks.now n) × (c.in-Some.is_left.now ≡ marked c.args.left.now n)
 turn c =
-    let pair = zip_turn c.args.tasks.list.now c.args.left.now c.loop-t.yielded c.into_iter-t-iterator.result _ c.next.new.self _ (cc) (cc) c.loop-t.yielded_by _
+    let pair = zip_turn c.args.tasks.now c.args.left.now c.loop-t.yielded c.into_iter-t-iterator.result _ c.next.new.self _ (cc) (cc) c.loop-t.yielded_by _
     c.in-Some.is c.next.ensures.steps in
     (pair.0, pair.2 no_task, pair.3 false)
 
@@ -23,7 +23,7 @@ loop-t-init c = usage_none _ _ _ c.default-usage.ensures
 pub overflow_add-usage : goal.overflow_add-usage
 overflow_add-usage c =
     let here = turn (goal.at.overflow_add-usage c).In-Some in
-    omega (arith, c.args.tasks.sound.few, users_few c.loop-t.invariant, bool_byte-le)
+    omega (arith, c.requires.few_tasks, users_few c.loop-t.invariant, bool_byte-le)
 
 pub loop-t-preserved-then-is_left : goal.loop-t-preserved-then-is_left
 loop-t-preserved-then-is_left c =
@@ -40,6 +40,6 @@ loop-t-preserved c =
 
 pub returns : goal.returns
 returns c =
-    let end = zip_end c.args.tasks.list.now c.args.left.now c.loop-t.yielded c.into_iter-t-iterator.result _ c.next.new.self _ (cc) (cc) c.loop-t.yielded_by
+    let end = zip_end c.args.tasks.now c.args.left.now c.loop-t.yielded c.into_iter-t-iterator.result _ c.next.new.self _ (cc) (cc) c.loop-t.yielded_by
     c.in-None.is c.next.ensures.steps in
-    usage_whole c.loop-t.invariant (omega (arith, c.args.tasks.sound.few))
+    usage_whole c.loop-t.invariant (omega (arith, c.requires.few_tasks))

@@ -5,4 +5,4 @@ use Rattle.response.proofs.ResourcesLaws.{UsageTo}
 use Rattle.response.proofs.blocking.usage_on.Given as goal
 
 abbrev pub invariant-loop-t : goal.invariant-loop-t
-invariant-loop-t l = UsageTo l.tasks.list.now (marked l.left) l.resource (length l.yielded) l.usage
+invariant-loop-t l = UsageTo l.tasks (marked l.left) l.resource (length l.yielded) l.usage

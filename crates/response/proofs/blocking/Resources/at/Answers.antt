@@ -10,5 +10,5 @@ returns c =
     let used = c.used_resources-used.ensures in
     let cut : length c.loop-k.kept-items ≡ c.used_resources-used.result =
     c.loop-k.auto.kept-items ∙ length-take-le c.used_resources-used.result (replicate resources c.default-all.result) used.upper_bound in
-    tracks_at c.args.tasks.list.now (marked c.args.left.now) c.used_resources-used.result c.loop-k.kept-items used.upper_bound used.unused
+    tracks_at c.args.tasks.now (marked c.args.left.now) c.used_resources-used.result c.loop-k.kept-items used.upper_bound used.unused
     c.default-all.ensures cut (λ k l. c.loop-k.invariant k (omega arith))

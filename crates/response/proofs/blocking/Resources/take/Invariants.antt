@@ -7,6 +7,6 @@ use Rattle.response.proofs.blocking.Resources.take.Given as goal
 
 abbrev pub invariant-loop-k : goal.invariant-loop-k
 invariant-loop-k l = let before = l.fn.self.usage in record {
-  done : (q : ℕ) → q < l.k → get_or l.kept-items q no_usage ≡ usage_after (task_at l.tasks.list.now l.fn.task.0) q (get_or before q no_usage);
+  done : (q : ℕ) → q < l.k → get_or l.kept-items q no_usage ≡ usage_after (task_at l.tasks l.fn.task.0) q (get_or before q no_usage);
   rest : (q : ℕ) → l.k ≤ q → q < l.k-end → get_or l.kept-items q no_usage ≡ get_or before q no_usage;
 }

@@ -82,6 +82,9 @@ pub ready_end : (m : ℕ) (rules : List Rule) (active left : ℕ → Bool) → m
 unfolding ready_by ready
 ready_end m rules active left e = rw e
 
+-- for a loop over the rules
+pub ruleset ready_steps = (ready_start, ready_turn, ready_end)
+
 -- ---- a candidate's response
 
 -- stopping at the deadline answers what the search to the period would

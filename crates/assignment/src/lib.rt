@@ -44,13 +44,14 @@ pub struct Hints<'a> {
 }
 
 // The tasks left for which every task that an active rule puts below them has a level.
+#[tactic(auto, using(crate::specs::Ready::ready_steps))]
 fn ready(rules: &[Rule], active: &[bool; MAX_RULES], left: &[bool; MAX_TASKS]) -> [bool; MAX_TASKS]
     requires { Indexed rules.now }
     ensures { marked result ≡ ready rules.now (marked active.now) (marked left.now) }
 {
     let mut ready = *left;
-    for (rule, is_active) in rules.iter().zip(active) {
-        ready[rule.higher.0] &= !(*is_active & left[rule.lower.0]);
+    for (k, rule) in rules.iter().enumerate() {
+        ready[rule.higher.0] &= !(active[k] & left[rule.lower.0]);
     }
     ready
 }

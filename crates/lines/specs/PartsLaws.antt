@@ -1,10 +1,9 @@
 -- Laws of bytes parted by a byte: what a search for the mark says of the first part, how the parts are got one by one, and
 -- that they and the bytes determine each other. Each goes by induction on the bytes. Assumes nothing.
-use Rattle.std.specs.Prelude.{◌≡◌, refl, Option, Some, None, unwrap_or, Bool, true, false, not, cond, ℕ, ◌+◌, ◌-◌, ◌≤◌, ◌<◌, eqb, ltb, length, take, drop}
-use Rattle.std.specs.List.{before_first, position, position_or_len}
-use Rattle.std.proofs.lemmas.Bool.Decides.{nat_tests}
-use Rattle.std.proofs.lemmas.List.Sums.{prefix_len-le-length}
-use Rattle.std.proofs.Common.{ap, ◌∙◌, add-one, one-add, arith, length-drop, drop_of_length-le, drop-cons, drop-drop}
+use Rattle.std.specs.Prelude.{◌≡◌, refl, Option, Some, None, unwrap_or, Bool, true, false, ◌⊎◌, ℕ, zero, suc, ◌+◌, ◌-◌, ◌≤◌, ◌<◌, eqb, length, take, drop}
+use Rattle.std.proofs.lemmas.Bool.{false_from_ne_true}
+use Rattle.memchr.specs.Find.{Nowhere, Passes, IsFirstByte, is_byte}
+use Rattle.std.proofs.Common.{ap, ◌∙◌, inl, inr, ⊎_elim, add-one, arith, length-drop, drop_of_length-le, drop-cons, drop-drop}
 use mathlib.Core.List.{List, [], ◌∷◌, ◌++◌}
 use borrow.Author.Tests.{eq-eqb, eqb-true}
 use Rattle.sets.specs.Choice.{pick}
@@ -32,23 +31,25 @@ pub up_to_end : (m : ℕ) (bs : List ℕ) (at : ℕ) → length bs ≤ at → up
 unfolding up_to
 up_to_end m bs at h = rw (drop_of_length-le bs h)
 
--- what a search for the mark finds
-before_mark : (m : ℕ) (bs : List ℕ) → before_first (λ b. eqb b m) bs ≡ up_to m bs
+-- what stands before the first mark: the first n bytes, where none of them is one, and the next is one or there are no more
+up_to_at : (m : ℕ) (bs : List ℕ) (n : ℕ) → Nowhere (Passes (is_byte m) bs) 0 n
+    → (n ≡ length bs) ⊎ ((n < length bs) × Passes (is_byte m) bs n)
+    → take n bs ≡ up_to m bs
 unfolding up_to
-before_mark m [] = refl
-before_mark m (b ∷ bs) = go (eqb b m) (before_mark m bs)
-  where
-    go : (t : Bool) → before_first (λ c. eqb c m) bs ≡ up_to m bs
-        → take (cond (not t) (1 + position_or_len (λ c. eqb c m) bs) 0) (b ∷ bs) ≡ pick t [] (b ∷ up_to m bs)
-    go true e = refl
-    go false e = rw one-add (ap (λ (cs : List ℕ). b ∷ cs) e)
+up_to_at m [] zero out ends = refl
+up_to_at m [] (suc n) out ends = absurd (⊎_elim (λ e. omega (arith, e)) (λ on. omega (arith, on.0)) ends)
+up_to_at m (b ∷ bs) zero out ends = ⊎_elim (λ e. absurd (omega (arith, e))) (λ on. rw on.1 refl) ends
+up_to_at m (b ∷ bs) (suc n) out ends =
+    let off : eqb b m ≡ false = false_from_ne_true _ (out 0 (omega arith) (omega arith)) in
+    let rest =
+    up_to_at m bs n (λ k low high. out (suc k) (omega arith) (omega (arith, high)))
+    (⊎_elim (λ e. inl (omega (arith, e))) (λ on. inr (omega (arith, on.0), on.1)) ends)
+    in
+    rw off (ap (λ (cs : List ℕ). b ∷ cs) rest)
 
-pub up_to_found : (m : ℕ) (bs : List ℕ) {r : Option ℕ} → r ≡ position (λ b. eqb b m) bs
-    → take (unwrap_or r (length bs)) bs ≡ up_to m bs
-up_to_found m bs e = rw (e, place _ _ (prefix_len-le-length (λ b. not (eqb b m)) bs)) (before_mark m bs)
-  where
-    place : (p n : ℕ) → p ≤ n → unwrap_or (cond (ltb p n) (Some p) None) n ≡ p
-    place p n h = grind (arith, nat_tests)
+pub up_to_first : (m : ℕ) (bs : List ℕ) (r : Option ℕ) → IsFirstByte (is_byte m) bs r → take (unwrap_or r (length bs)) bs ≡ up_to m bs
+up_to_first m bs None out = up_to_at m bs (length bs) out (inl refl)
+up_to_first m bs (Some k) first = up_to_at m bs k first.0.before (inr (first.0.high, first.1))
 
 -- ---- the parts one by one
 

@@ -10,6 +10,8 @@ ghost use Rattle.lines.specs.Decimal.{tab, digit_of, number_from, decimal, field
 ghost use Rattle.lines.specs.Parts.{up_to};
 ghost use Rattle.lines.specs.Line.{line, lines_of, max_head, max_entries, max_line};
 
+use memchr::memchr;
+
 // What parts the fields of a line, and what ends it.
 pub const TAB: u8 = 9;
 
@@ -30,10 +32,7 @@ pub fn stretch(bytes: &[u8], at: usize, mark: u8) -> &[u8]
     ensures { result.now ≡ up_to mark (drop at bytes.now) }
 {
     let rest = &bytes[at.min(bytes.len())..];
-    let end = rest
-        .iter()
-        .position(|byte| *byte == mark)
-        .unwrap_or(rest.len());
+    let end = memchr(mark, rest).unwrap_or(rest.len());
     &rest[..end]
 }
 

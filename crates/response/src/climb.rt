@@ -3,7 +3,7 @@
 ghost use Rattle.std.specs.Prelude.{◌≡◌, ◌≤◌};
 ghost use Rattle.taskset.specs.Refusals.{max_period, InRanges};
 ghost use Rattle.response.specs.Equation.{interference, window_of};
-ghost use Rattle.response.specs.Load.{Bounds, part_of, bound_of};
+ghost use Rattle.response.specs.Load.{Bounds, releases, part_of, bound_of};
 ghost use Rattle.response.specs.Views.{demand_in};
 
 use crate::Load;
@@ -19,25 +19,35 @@ pub struct Part {
     pub rate: u64,
 }
 
-// ⌈(w + J) / T⌉ × C
-#[tactic(auto, using(crate::proofs::Demand::div_ceil_is), unfolding(crate::specs::Equation::interference))]
+// ⌈(w + J) / T⌉. Both numbers have at most 32 bits, and a division of such takes less time.
+#[tactic(auto, using(crate::proofs::Demand::div_ceil_is))]
+fn releases(t: &Task, w: u64) -> u64
+    requires in_ranges { InRanges t.now }
+    requires w_le_max_period { w ≤ max_period }
+    ensures { result ≡ releases t.now w }
+{
+    u64::from(((w + t.jitter) as u32).div_ceil(t.period as u32))
+}
+
+// What a task above brings to a window w: ⌈(w + J) / T⌉ × C.
+#[tactic(auto, unfolding(crate::specs::Equation::interference))]
 fn interference(t: &Task, w: u64) -> u64
     requires in_ranges { InRanges t.now }
     requires w_le_max_period { w ≤ max_period }
     ensures { result ≡ interference t.now w }
 {
-    (w + t.jitter).div_ceil(t.period) * t.execution
+    releases(t, w) * t.execution
 }
 
 // What a task adds to a bound on every window from w on: its rate, and that over its jitter, where what it brings at w does
 // not last until `reach`; else what it brings at w.
-#[tactic(auto, using(crate::proofs::Demand::div_ceil_is), unfolding(crate::specs::Load::fixed_part, crate::specs::Load::rate_part))]
+#[tactic(auto, unfolding(crate::specs::Load::fixed_part, crate::specs::Load::rate_part))]
 fn part_at(t: &Task, w: u64, reach: u64) -> Part
     requires in_ranges { InRanges t.now }
     requires w_le_max_period { w ≤ max_period }
     ensures { result ≡ part_of t.now w reach }
 {
-    let releases = (w + t.jitter).div_ceil(t.period);
+    let releases = releases(t, w);
     if releases * t.period - t.jitter < reach {
         let rate = t.execution * SCALE / t.period;
         return Part {

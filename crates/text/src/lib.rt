@@ -76,7 +76,7 @@ pub fn parse(line: &[u8]) -> Option<Call>
     }
 }
 
-// Reads a text into a fresh set, a line at a time. Where it is refused, the calls of the lines before stay in the set.
+// Reads a text into a fresh set, a line at a time. What stands in the set after a refusal is left open: nobody reads it.
 #[tactic(auto, using(crate::specs::Lines::text_laws))]
 pub fn hear_lines(text: &[u8], set: &mut TaskSet) -> Result<(), RefusedAt>
     requires { set.old ≡ fresh_set }

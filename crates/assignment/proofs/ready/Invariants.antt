@@ -5,9 +5,9 @@ use Rattle.taskset.specs.Refusals.{max_tasks}
 use Rattle.assignment.specs.Ready.{ready_by}
 use Rattle.assignment.proofs.ready.Given as goal
 
-abbrev pub invariant-loop-rule : goal.invariant-loop-rule
-invariant-loop-rule l =
+abbrev pub invariant-loop-k : goal.invariant-loop-k
+invariant-loop-k l =
     record {
       long : length l.ready ≡ max_tasks;
-      left_ready : marked l.ready ≡ ready_by (length l.yielded) l.rules (marked l.active) (marked l.left);
+      left_ready : marked l.ready ≡ ready_by l.k l.rules (marked l.active) (marked l.left);
     }

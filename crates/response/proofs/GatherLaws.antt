@@ -1,26 +1,22 @@
 -- What a climb up to room goes over: a base, and the tasks that may be released more than once in a window.
 -- A task with room + J ≤ T is released once in each window from 1 to room: it is part of the base. Assumes nothing.
 use Rattle.std.specs.Prelude.{◌≡◌, Bool, List, ℕ, ◌+◌, ◌*◌, ◌≤◌, ◌<◌, take, set}
-use Rattle.std.proofs.Math.Path.{refl}
-use Rattle.std.proofs.Common.{ap, add-zero, arith, get_or-set_same, get_or-set_other}
+use Rattle.std.proofs.Common.{ap, arith, get_or-set_same, get_or-set_other}
 use Rattle.std.proofs.Math.Bool.{true, false}
-use Rattle.std.proofs.Math.Dec.{leb}
 use Rattle.std.proofs.Math.ListN.{length, get_or, length-set}
 use Rattle.std.proofs.Math.Seq.{get_or-take, length-take-le}
 use borrow.Author.Count.{below_more, below_none}
-use borrow.Author.Tests.{leb-true}
 use Rattle.sets.specs.Choice.{pick}
 use Rattle.sets.specs.Bounded.{every}
 use Rattle.sets.specs.Sum.{sum, sum-none, sum_more, sum_start, sum_turn, sum_cong}
 use Rattle.taskset.specs.declared.Task.{Task}
-use Rattle.taskset.specs.Refusals.{max_tasks, max_period, InRanges}
-use Rattle.response.specs.declared.Share.{Share}
+use Rattle.taskset.specs.Refusals.{max_tasks, max_period}
 use Rattle.response.specs.Equation.{interference, demand}
 use Rattle.response.proofs.Demand.{interference_once, load_front}
 use Rattle.response.proofs.BlockingLaws.{blocking_le}
 use Rattle.taskset.specs.Model.{task_at, SoundTasks}
 use Rattle.response.specs.Blocking.{blocking_of}
-use Rattle.response.specs.Load.{share_by, share_of, StandsFor, kept_at}
+use Rattle.response.specs.Load.{StandsFor, kept_at}
 
 module _ (tasks : List Task) (i : ℕ) (above : ℕ → Bool) where
   -- what the task itself needs
@@ -36,7 +32,7 @@ module _ (tasks : List Task) (i : ℕ) (above : ℕ → Bool) where
   above_bring j w = sum j above (λ k. interference (task_at tasks k) w)
 
   -- a base and n tasks that stand for the task and for the first j tasks
-  pub record Gathered (room j base start n : ℕ) (kept : List ℕ) : Type 0 where
+  pub record GatheredTo (room j base start n : ℕ) (kept : List ℕ) : Type 0 where
     pub few : n ≤ j
     pub room_for : n ≤ length kept
     pub inside : (k : ℕ) → k < n → get_or kept k 0 < length tasks
@@ -58,7 +54,7 @@ own_fits {i} sound h above e = let r = sound.each i h in (omega arith, omega (ar
 module _ {tasks : List Task} {i : ℕ} {above : ℕ → Bool} (sound : SoundTasks tasks) where
   -- before the loop
   pub gathered_none : {b room : ℕ} {kept : List ℕ} → i < length tasks → b ≡ blocking_of tasks i above
-      → let own = b + (task_at tasks i).execution in Gathered tasks i above room 0 own own 0 kept
+      → let own = b + (task_at tasks i).execution in GatheredTo tasks i above room 0 own own 0 kept
   gathered_none {b} {room} {kept} h e =
       let fits = own_fits sound h above e in
       record {
@@ -71,80 +67,82 @@ module _ {tasks : List Task} {i : ℕ} {above : ℕ → Bool} (sound : SoundTask
         same = λ w l h. simp sum-none (rw e);
       }
 
-  module _ {room j base start n : ℕ} {kept : List ℕ} (g : Gathered tasks i above room j base start n kept) where
-    -- one task more: it is written after the n, and counts where it is kept
-    module _ (fits : n < length kept) (here : j < length tasks) where
-      abbrev next : List ℕ
-      next = set kept n j
-
+  module _ {room j base start n : ℕ} {kept : List ℕ} (g : GatheredTo tasks i above room j base start n kept) where
+    -- one task more
+    module _ (here : j < length tasks) where
       abbrev t : Task
       t = task_at tasks j
-
-      same_index : (k : ℕ) → k < n → get_or next k 0 ≡ get_or kept k 0
-      same_index k h = get_or-set_other kept n k j 0 (λ e. absurd (omega (arith, e)))
-
-      written : get_or next n 0 ≡ j
-      written = get_or-set_same kept n j 0 fits
-
-      below : (k : ℕ) → k < n → get_or next k 0 < length tasks
-      below k h = omega (arith, same_index k h, g.inside k h)
-
-      brings : (w : ℕ) → bring tasks i above n next w ≡ bring tasks i above n kept w
-      brings w = sum_cong n every _ _ (λ k h. ap (λ (m : ℕ). interference (task_at tasks m) w) (same_index k h))
-
-      brings_more : (w : ℕ) → bring tasks i above (n + 1) next w ≡ bring tasks i above n kept w + interference t w
-      brings_more w =
-          let last : interference (kept_at tasks next n) w ≡ interference t w = rw written in
-          omega (arith, sum_more n every (λ k. interference (kept_at tasks next k) w), brings w, last)
 
       turn : (w x : ℕ) → 1 ≤ w → w ≤ room → x ≡ pick (above j) (interference t w) 0
           → base + bring tasks i above n kept w + x ≡ own tasks i above + above_bring tasks i above (j + 1) w
       turn w x low high = sum_turn _ _ j above _ x (g.same w low high)
 
-      pub gathered_more : {s : Share} → s ≡ share_of (above j) t room
-          → Gathered tasks i above room (j + 1) (base + s.base) (start + s.start) (n + s.count) next
-      unfolding share_of
-      gathered_more f = rw f (go (above j) (leb (room + t.jitter) t.period) refl refl (sound.each j here))
-        where
-          go : (a o : Bool) → above j ≡ a → leb (room + t.jitter) t.period ≡ o → InRanges t
-              → let p = share_by a o t in
-              Gathered tasks i above room (j + 1) (base + p.base) (start + p.start) (n + p.count) next
-          go true true a o ranges =
-              let early = leb-true (room + t.jitter) t.period o in
-              rw (add-zero n)
-              (record {
-                few = omega (arith, g.few);
-                room_for = omega (arith, fits, length-set kept n j);
-                inside = below;
-                low = omega (arith, g.low);
-                high = omega (arith, g.high, ranges.period, ranges.execution);
-                first = omega (arith, g.first, brings 1);
-                same = λ w low high.
-                    let once = interference_once t w low (omega (arith, early, high)) in
-                    omega (arith, turn w (interference t w) low high (rw a), brings w, once);
-              })
-          go true false a o ranges =
+      -- it is not above
+      pub gathered_skipped : above j ≡ false → GatheredTo tasks i above room (j + 1) base start n kept
+      gathered_skipped off =
+          record {
+            few = omega (arith, g.few);
+            room_for = g.room_for;
+            inside = g.inside;
+            low = g.low;
+            high = omega (arith, g.high);
+            first = g.first;
+            same = λ w low high. omega (arith, turn w 0 low high (rw off));
+          }
+
+      module _ (on : above j ≡ true) where
+        -- it is released once in every window
+        pub gathered_once : room + t.jitter ≤ t.period
+            → GatheredTo tasks i above room (j + 1) (base + t.execution) (start + t.execution) n kept
+        gathered_once early =
+            let ranges = sound.each j here in
+            record {
+              few = omega (arith, g.few);
+              room_for = g.room_for;
+              inside = g.inside;
+              low = omega (arith, g.low);
+              high = omega (arith, g.high, ranges.period, ranges.execution);
+              first = omega (arith, g.first);
+              same = λ w low high.
+                  let once = interference_once t w low (omega (arith, early, high)) in
+                  omega (arith, turn w (interference t w) low high (rw on), once);
+            }
+
+        -- it is kept: written after the n
+        module _ (fits : n < length kept) where
+          abbrev next : List ℕ
+          next = set kept n j
+
+          same_index : (k : ℕ) → k < n → get_or next k 0 ≡ get_or kept k 0
+          same_index k h = get_or-set_other kept n k j 0 (λ e. absurd (omega (arith, e)))
+
+          written : get_or next n 0 ≡ j
+          written = get_or-set_same kept n j 0 fits
+
+          below : (k : ℕ) → k < n → get_or next k 0 < length tasks
+          below k h = omega (arith, same_index k h, g.inside k h)
+
+          brings : (w : ℕ) → bring tasks i above n next w ≡ bring tasks i above n kept w
+          brings w = sum_cong n every _ _ (λ k h. ap (λ (m : ℕ). interference (task_at tasks m) w) (same_index k h))
+
+          brings_more : (w : ℕ) → bring tasks i above (n + 1) next w ≡ bring tasks i above n kept w + interference t w
+          brings_more w =
+              let last : interference (kept_at tasks next n) w ≡ interference t w = rw written in
+              omega (arith, sum_more n every (λ k. interference (kept_at tasks next k) w), brings w, last)
+
+          pub gathered_kept : GatheredTo tasks i above room (j + 1) base (start + t.execution) (n + 1) next
+          gathered_kept =
+              let ranges = sound.each j here in
               let once = interference_once t 1 (omega arith) (omega (arith, ranges.jitter)) in
               record {
                 few = omega (arith, g.few);
                 room_for = omega (arith, fits, length-set kept n j);
                 inside = below_more (λ k. get_or next k 0 < length tasks) n below (omega (arith, written, here));
-                low = omega (arith, g.low);
+                low = g.low;
                 high = omega (arith, g.high, ranges.period, ranges.execution);
                 first = omega (arith, g.first, brings_more 1, once);
-                same = λ w low high. omega (arith, turn w (interference t w) low high (rw a), brings_more w);
+                same = λ w low high. omega (arith, turn w (interference t w) low high (rw on), brings_more w);
               }
-          go false once a o ranges =
-              rw (add-zero n)
-              (record {
-                few = omega (arith, g.few);
-                room_for = omega (arith, fits, length-set kept n j);
-                inside = below;
-                low = omega (arith, g.low);
-                high = omega (arith, g.high);
-                first = omega (arith, g.first, brings 1);
-                same = λ w low high. omega (arith, turn w 0 low high (rw a), brings w);
-              })
 
     -- words hold the sums
     pub gathered_fits : j ≤ length tasks → Fit base start n

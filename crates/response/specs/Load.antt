@@ -1,13 +1,12 @@
 -- What the climb to a response window goes over, and the bounds that it leaps to: definitions that contracts below the search's
 -- own cite. Any result that they allow leads to the same response. Assumes nothing.
-use Rattle.std.specs.Prelude.{◌≡◌, Bool, true, false, List, ℕ, ◌+◌, ◌-◌, ◌*◌, ◌/◌, ◌^◌, ◌≤◌, ◌<◌, leb, ltb, length, get_or}
+use Rattle.std.specs.Prelude.{◌≡◌, Bool, List, ℕ, ◌+◌, ◌-◌, ◌*◌, ◌/◌, ◌^◌, ◌≤◌, ◌<◌, leb, ltb, length, get_or}
 use Rattle.sets.specs.Choice.{pick}
 use Rattle.sets.specs.Bounded.{every}
 use Rattle.sets.specs.Sum.{sum}
 use Rattle.taskset.specs.declared.Task.{Task}
 use Rattle.taskset.specs.Refusals.{max_tasks, max_period}
 use Rattle.taskset.specs.Model.{task_at, SoundTasks}
-use Rattle.response.specs.declared.Share.{Share}
 use Rattle.response.specs.declared.climb.Part.{Part}
 use Rattle.response.specs.Equation.{ceil, interference, demand}
 
@@ -37,15 +36,6 @@ pub record StandsFor (tasks : List Task) (i : ℕ) (above : ℕ → Bool) (room 
   pub is_load : IsLoad base tasks kept
   pub starts : start ≡ load_demand base tasks kept 1
   pub same : (w : ℕ) → 1 ≤ w → w ≤ room → load_demand base tasks kept w ≡ demand tasks i above w
-
--- what a task adds to a load, by whether it is above and whether it is released once
-abbrev pub share_by : Bool → Bool → Task → Share
-share_by true true t = record { base = t.execution; count = 0; start = t.execution }
-share_by true false t = record { base = 0; count = 1; start = t.execution }
-share_by false once t = record { base = 0; count = 0; start = 0 }
-
-unfoldable pub share_of : Bool → Task → ℕ → Share
-share_of above t room = share_by above (leb (room + t.jitter) t.period) t
 
 -- ---- what a task adds to a bound
 

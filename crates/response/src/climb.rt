@@ -20,13 +20,12 @@ pub struct Part {
 }
 
 // ⌈(w + J) / T⌉. Both numbers have at most 32 bits, and a division of such takes less time.
-#[tactic(auto, using(crate::proofs::Demand::div_ceil_is))]
 fn releases(t: &Task, w: u64) -> u64
     requires in_ranges { InRanges t.now }
     requires w_le_max_period { w ≤ max_period }
     ensures { result ≡ releases t.now w }
 {
-    u64::from(((w + t.jitter) as u32).div_ceil(t.period as u32))
+    u64::from((w + t.jitter + (t.period - 1)) as u32 / t.period as u32)
 }
 
 // What a task above brings to a window w: ⌈(w + J) / T⌉ × C.
@@ -105,7 +104,8 @@ impl Load<'_> {
         bound(fixed, rate).max(reach)
     }
 
-    // Where the climb goes on from w, whose demand is `needed`: there, or by three leaps from there.
+    // Where the climb goes on from w, whose demand is `needed`: there, or by three leaps from there. Where the first leads no
+    // further, the others would not either.
     fn next(&self, w: u64, needed: u64, leaps: bool) -> u64
         requires w_le_max_period { w ≤ max_period }
         requires bounds_w { Bounds (demand_in self.now) w }
@@ -115,6 +115,9 @@ impl Load<'_> {
     {
         if leaps {
             let near = self.leap(w, needed);
+            if near == needed {
+                return needed;
+            }
             let far = self.leap(w, near);
             return self.leap(w, far);
         }

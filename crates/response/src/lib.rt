@@ -11,17 +11,17 @@ ghost use Rattle.std.specs.Prelude.{◌≡◌, ◌+◌, ◌^◌, ◌≤◌, ◌<
 ghost use Rattle.taskset.specs.Refusals.{max_tasks, max_period};
 ghost use Rattle.response.specs.Equation.{demand, SaysWindow, window_of, response_time, SaysResponse};
 ghost use Rattle.response.specs.Timing.{timing_of, SaysTiming, reported};
-ghost use Rattle.response.specs.Load.{share_of, StandsFor};
+ghost use Rattle.response.specs.Load.{StandsFor};
 ghost use Rattle.response.specs.Views.{tasks_of, above_of};
 
 pub use blocking::{Resources, Usage, level_blocking};
 pub use candidate::Candidate;
 pub use load::Load;
-use taskset::{MAX_TASKS, Task};
+use taskset::MAX_TASKS;
 
-// What tasks add to a load: to its base, to the tasks kept beside it, and to its demand at 1.
+// What was gathered for a load: its base, how many tasks are kept beside it, and its demand at 1.
 #[derive(Clone, Copy)]
-pub struct Share {
+pub struct Gathered {
     pub base: u64,
     pub count: usize,
     pub start: u64,
@@ -35,36 +35,9 @@ pub enum Timing {
     PastPeriod,
 }
 
-// What a task adds to a load, for windows up to room: nothing unless it is above; to the base where it is released once.
-#[tactic(auto, unfolding(crate::specs::Load::share_of))]
-fn share_of(above: bool, t: &Task, room: u64) -> Share
-    requires { room + t.now.jitter < 2 ^ 64 }
-    ensures { result ≡ share_of above t.now room }
-{
-    if !above {
-        return Share {
-            base: 0,
-            count: 0,
-            start: 0,
-        };
-    }
-    if room + t.jitter <= t.period {
-        return Share {
-            base: t.execution,
-            count: 0,
-            start: t.execution,
-        };
-    }
-    Share {
-        base: 0,
-        count: 1,
-        start: t.execution,
-    }
-}
-
 impl Candidate<'_> {
     // Gathers what a climb up to room goes over: blocking and C of the task with what is released once, and the others above.
-    fn gather(&self, room: u64, kept: &mut [u8; MAX_TASKS]) -> Share
+    fn gather(&self, room: u64, kept: &mut [u8; MAX_TASKS]) -> Gathered
         requires { room ≤ max_period }
         ensures count_in_bounds { result.count ≤ max_tasks }
         ensures stands { StandsFor (tasks_of self.now) self.now.task.0 (above_of self.now) room
@@ -75,13 +48,17 @@ impl Candidate<'_> {
         // An array of fixed size and a count, since nothing is allocated.
         let mut count = 0;
         for (j, t) in self.tasks.list.iter().enumerate() {
-            kept[count] = j as u8;
-            let s = share_of(self.above[j], t, room);
-            base += s.base;
-            count += s.count;
-            start += s.start;
+            if self.above[j] {
+                start += t.execution;
+                if room + t.jitter <= t.period {
+                    base += t.execution;
+                } else {
+                    kept[count] = j as u8;
+                    count += 1;
+                }
+            }
         }
-        Share { base, count, start }
+        Gathered { base, count, start }
     }
 
     // The response window, searched for up to room.

@@ -44,18 +44,21 @@ unnamed f rest true = refl
 unnamed f rest false = refl
 
 -- one rule more: its higher task stays only where the rule is not active or its lower task has a level
-pub ready_turn : (now : List Bool) (k : ℕ) (rules : List Rule) (active left : ℕ → Bool) (r : Rule) (on : Bool) → r ≡ rule_at rules k
-    → on ≡ active k → r.higher.0 < length now → marked now ≡ ready_by k rules active left
-    → marked (set now r.higher.0 (marked now r.higher.0 && not (on && left r.lower.0))) ≡ ready_by (k + 1) rules active left
+pub ready_turn : (now : List Bool) (k : ℕ) (rules : List Rule) (active left : ℕ → Bool) → let r = rule_at rules k in
+    r.higher.0 < length now → marked now ≡ ready_by k rules active left
+    → marked (set now r.higher.0 (marked now r.higher.0 && not (active k && left r.lower.0))) ≡ ready_by (k + 1) rules active left
 unfolding ready_by
-ready_turn now k rules active left r on at is h e =
+ready_turn now k rules active left h e =
     fun_ext (λ i.
     marked_store now r.higher.0 (marked now r.higher.0 && not x) h i
     ∙ go i (eqb r.higher.0 i) refl
     ∙ ap (λ (b : Bool). left i && b) (whole i))
   where
+    r : Rule
+    r = rule_at rules k
+
     x : Bool
-    x = on && left r.lower.0
+    x = active k && left r.lower.0
 
     rest : ℕ → Bool
     rest i = all k (λ q. not (blocks rules active left i q))
@@ -72,18 +75,15 @@ ready_turn now k rules active left r on at is h e =
     go i false f = at_task i ∙ unnamed (left i) (rest i) x
 
     whole : (i : ℕ) → (not (x && eqb r.higher.0 i) && rest i) ≡ all (k + 1) (λ q. not (blocks rules active left i q))
-    whole i =
-        ap (λ (b : Bool). not (b && left r.lower.0 && eqb r.higher.0 i) && rest i) is
-        ∙ ap (λ (q : Rule). not (active k && left q.lower.0 && eqb q.higher.0 i) && rest i) at
-        ∙ sym (all-next k (λ q. not (blocks rules active left i q)))
+    whole i = sym (all-next k (λ q. not (blocks rules active left i q)))
 
 pub ready_end : (m : ℕ) (rules : List Rule) (active left : ℕ → Bool) → m ≡ length rules
     → ready_by m rules active left ≡ ready rules active left
 unfolding ready_by ready
 ready_end m rules active left e = rw e
 
--- for a loop over the rules
-pub ruleset ready_steps = (ready_start, ready_turn, ready_end)
+-- for where a loop over the rules begins and ends
+pub ruleset ready_ends = (ready_start, ready_end)
 
 -- ---- a candidate's response
 

@@ -44,7 +44,7 @@ pub struct Hints<'a> {
 }
 
 // The tasks left for which every task that an active rule puts below them has a level.
-#[tactic(auto, using(crate::specs::Ready::ready_steps))]
+#[tactic(auto, using(crate::specs::Ready::ready_ends))]
 fn ready(rules: &[Rule], active: &[bool; MAX_RULES], left: &[bool; MAX_TASKS]) -> [bool; MAX_TASKS]
     requires { Indexed rules.now }
     ensures { marked result ≡ ready rules.now (marked active.now) (marked left.now) }

@@ -10,7 +10,7 @@ use Rattle.sets.specs.Choice.{pick}
 use Rattle.sets.specs.Bounded.{every}
 use Rattle.sets.specs.Sum.{sum, sum-none, sum_more, sum_start, sum_turn, sum_cong}
 use Rattle.taskset.specs.declared.Task.{Task}
-use Rattle.taskset.specs.Refusals.{max_tasks, max_period}
+use Rattle.taskset.specs.Refusals.{max_period}
 use Rattle.response.specs.Equation.{interference, demand}
 use Rattle.response.proofs.Demand.{interference_once, load_front}
 use Rattle.response.proofs.BlockingLaws.{blocking_le}
@@ -41,12 +41,6 @@ module _ (tasks : List Task) (i : ℕ) (above : ℕ → Bool) where
     pub first : start ≡ base + bring n kept 1
     pub same : (w : ℕ) → 1 ≤ w → w ≤ room → base + bring n kept w ≡ own + above_bring j w
 
--- sums that words hold
-pub record Fit (b s n : ℕ) : Type 0 where
-  pub base : b ≤ (max_tasks + 2) * max_period
-  pub start : s ≤ (max_tasks + 2) * max_period
-  pub count : n ≤ max_tasks
-
 pub own_fits : {tasks : List Task} {i : ℕ} → SoundTasks tasks → i < length tasks → (above : ℕ → Bool) {b : ℕ} → b ≡ blocking_of tasks i above
     → let own = b + (task_at tasks i).execution in (1 ≤ own) × (own ≤ 2 * max_period)
 own_fits {i} sound h above e = let r = sound.each i h in (omega arith, omega (arith, blocking_le sound i above, r.period, r.execution))
@@ -69,89 +63,79 @@ module _ {tasks : List Task} {i : ℕ} {above : ℕ → Bool} (sound : SoundTask
 
   module _ {room j base start n : ℕ} {kept : List ℕ} (g : GatheredTo tasks i above room j base start n kept) where
     -- one task more
-    module _ (here : j < length tasks) where
-      abbrev t : Task
-      t = task_at tasks j
+    abbrev t : Task
+    t = task_at tasks j
 
-      turn : (w x : ℕ) → 1 ≤ w → w ≤ room → x ≡ pick (above j) (interference t w) 0
-          → base + bring tasks i above n kept w + x ≡ own tasks i above + above_bring tasks i above (j + 1) w
-      turn w x low high = sum_turn _ _ j above _ x (g.same w low high)
+    turn : (w x : ℕ) → 1 ≤ w → w ≤ room → x ≡ pick (above j) (interference t w) 0
+        → base + bring tasks i above n kept w + x ≡ own tasks i above + above_bring tasks i above (j + 1) w
+    turn w x low high = sum_turn _ _ j above _ x (g.same w low high)
 
-      -- it is not above
-      pub gathered_skipped : above j ≡ false → GatheredTo tasks i above room (j + 1) base start n kept
-      gathered_skipped off =
+    -- it is not above
+    pub gathered_skipped : above j ≡ false → GatheredTo tasks i above room (j + 1) base start n kept
+    gathered_skipped off =
+        record {
+          few = omega (arith, g.few);
+          room_for = g.room_for;
+          inside = g.inside;
+          low = g.low;
+          high = omega (arith, g.high);
+          first = g.first;
+          same = λ w low high. omega (arith, turn w 0 low high (rw off));
+        }
+
+    module _ (here : j < length tasks) (on : above j ≡ true) where
+      -- it is released once in every window
+      pub gathered_once : room + t.jitter ≤ t.period
+          → GatheredTo tasks i above room (j + 1) (base + t.execution) (start + t.execution) n kept
+      gathered_once early =
+          let ranges = sound.each j here in
           record {
             few = omega (arith, g.few);
             room_for = g.room_for;
             inside = g.inside;
-            low = g.low;
-            high = omega (arith, g.high);
-            first = g.first;
-            same = λ w low high. omega (arith, turn w 0 low high (rw off));
+            low = omega (arith, g.low);
+            high = omega (arith, g.high, ranges.period, ranges.execution);
+            first = omega (arith, g.first);
+            same = λ w low high.
+                let once = interference_once t w low (omega (arith, early, high)) in
+                omega (arith, turn w (interference t w) low high (rw on), once);
           }
 
-      module _ (on : above j ≡ true) where
-        -- it is released once in every window
-        pub gathered_once : room + t.jitter ≤ t.period
-            → GatheredTo tasks i above room (j + 1) (base + t.execution) (start + t.execution) n kept
-        gathered_once early =
+      -- it is kept: written after the n
+      module _ (fits : n < length kept) where
+        abbrev next : List ℕ
+        next = set kept n j
+
+        same_index : (k : ℕ) → k < n → get_or next k 0 ≡ get_or kept k 0
+        same_index k h = get_or-set_other kept n k j 0 (λ e. absurd (omega (arith, e)))
+
+        written : get_or next n 0 ≡ j
+        written = get_or-set_same kept n j 0 fits
+
+        below : (k : ℕ) → k < n → get_or next k 0 < length tasks
+        below k h = omega (arith, same_index k h, g.inside k h)
+
+        brings : (w : ℕ) → bring tasks i above n next w ≡ bring tasks i above n kept w
+        brings w = sum_cong n every _ _ (λ k h. ap (λ (m : ℕ). interference (task_at tasks m) w) (same_index k h))
+
+        brings_more : (w : ℕ) → bring tasks i above (n + 1) next w ≡ bring tasks i above n kept w + interference t w
+        brings_more w =
+            let last : interference (kept_at tasks next n) w ≡ interference t w = rw written in
+            omega (arith, sum_more n every (λ k. interference (kept_at tasks next k) w), brings w, last)
+
+        pub gathered_kept : GatheredTo tasks i above room (j + 1) base (start + t.execution) (n + 1) next
+        gathered_kept =
             let ranges = sound.each j here in
+            let once = interference_once t 1 (omega arith) (omega (arith, ranges.jitter)) in
             record {
               few = omega (arith, g.few);
-              room_for = g.room_for;
-              inside = g.inside;
-              low = omega (arith, g.low);
+              room_for = omega (arith, fits, length-set kept n j);
+              inside = below_more (λ k. get_or next k 0 < length tasks) n below (omega (arith, written, here));
+              low = g.low;
               high = omega (arith, g.high, ranges.period, ranges.execution);
-              first = omega (arith, g.first);
-              same = λ w low high.
-                  let once = interference_once t w low (omega (arith, early, high)) in
-                  omega (arith, turn w (interference t w) low high (rw on), once);
+              first = omega (arith, g.first, brings_more 1, once);
+              same = λ w low high. omega (arith, turn w (interference t w) low high (rw on), brings_more w);
             }
-
-        -- it is kept: written after the n
-        module _ (fits : n < length kept) where
-          abbrev next : List ℕ
-          next = set kept n j
-
-          same_index : (k : ℕ) → k < n → get_or next k 0 ≡ get_or kept k 0
-          same_index k h = get_or-set_other kept n k j 0 (λ e. absurd (omega (arith, e)))
-
-          written : get_or next n 0 ≡ j
-          written = get_or-set_same kept n j 0 fits
-
-          below : (k : ℕ) → k < n → get_or next k 0 < length tasks
-          below k h = omega (arith, same_index k h, g.inside k h)
-
-          brings : (w : ℕ) → bring tasks i above n next w ≡ bring tasks i above n kept w
-          brings w = sum_cong n every _ _ (λ k h. ap (λ (m : ℕ). interference (task_at tasks m) w) (same_index k h))
-
-          brings_more : (w : ℕ) → bring tasks i above (n + 1) next w ≡ bring tasks i above n kept w + interference t w
-          brings_more w =
-              let last : interference (kept_at tasks next n) w ≡ interference t w = rw written in
-              omega (arith, sum_more n every (λ k. interference (kept_at tasks next k) w), brings w, last)
-
-          pub gathered_kept : GatheredTo tasks i above room (j + 1) base (start + t.execution) (n + 1) next
-          gathered_kept =
-              let ranges = sound.each j here in
-              let once = interference_once t 1 (omega arith) (omega (arith, ranges.jitter)) in
-              record {
-                few = omega (arith, g.few);
-                room_for = omega (arith, fits, length-set kept n j);
-                inside = below_more (λ k. get_or next k 0 < length tasks) n below (omega (arith, written, here));
-                low = g.low;
-                high = omega (arith, g.high, ranges.period, ranges.execution);
-                first = omega (arith, g.first, brings_more 1, once);
-                same = λ w low high. omega (arith, turn w (interference t w) low high (rw on), brings_more w);
-              }
-
-    -- words hold the sums
-    pub gathered_fits : j ≤ length tasks → Fit base start n
-    gathered_fits h =
-        record {
-          base = omega (arith, g.first, g.high, sound.few);
-          start = omega (arith, g.high, sound.few);
-          count = omega (arith, g.few, sound.few);
-        }
 
     -- at its end they stand for the demand
     pub gathered_all : j ≡ length tasks → StandsFor tasks i above room base (take n kept) start
@@ -163,7 +147,7 @@ module _ {tasks : List Task} {i : ℕ} {above : ℕ → Bool} (sound : SoundTask
               record {
                 sound = sound;
                 low = g.low;
-                high = (gathered_fits (omega arith)).base;
+                high = omega (arith, g.first, g.high, sound.few);
                 few = omega (arith, length-take-le n kept g.room_for, g.few, sound.few);
                 inside = λ k h.
                     let under : k < n = omega (arith, length-take-le n kept g.room_for) in

@@ -10,11 +10,11 @@ use Rattle.sets.specs.Bounded.{every}
 use Rattle.sets.specs.Sum.{sum, sum-none, sum_start, sum_more, sum-le, sum_scaled}
 use Rattle.taskset.specs.declared.Task.{Task}
 use Rattle.taskset.specs.Refusals.{max_tasks, max_period, InRanges}
-use Rattle.response.specs.Equation.{ceil, interference}
+use Rattle.response.specs.Equation.{ceil, releases, interference}
 use Rattle.response.specs.Agreement.{climb}
 use Rattle.response.proofs.Demand.{ceil-above, ceil_least, interference_mono, interference-le, load_mono, kept_row}
 use Rattle.response.specs.Load.{Bounds, kept_at, IsLoad, load_demand}
-use Rattle.response.specs.Load.{scale, rate, releases, ends, fixed_part, rate_part, bound_of}
+use Rattle.response.specs.Load.{scale, rate, ends, fixed_part, rate_part, bound_of}
 
 -- ---- it is no more than what the task brings
 

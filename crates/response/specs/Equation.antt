@@ -13,9 +13,13 @@ use Rattle.response.specs.Blocking.{blocking_of}
 abbrev pub ceil : ℕ → ℕ → ℕ
 ceil x t = (x + (t - 1)) / t
 
--- ⌈(w + J) / T⌉ × C
+-- ⌈(w + J) / T⌉
+abbrev pub releases : Task → ℕ → ℕ
+releases t w = ceil (w + t.jitter) t.period
+
+-- and C of each
 unfoldable pub interference : Task → ℕ → ℕ
-interference t w = ceil (w + t.jitter) t.period * t.execution
+interference t w = releases t w * t.execution
 
 -- demand(w) of task i with the tasks of `above`, others than i, above it: its blocking, its C and what each of those brings
 unfoldable pub demand : List Task → ℕ → (ℕ → Bool) → ℕ → ℕ

@@ -8,7 +8,7 @@ use Rattle.taskset.specs.declared.Task.{Task}
 use Rattle.taskset.specs.Refusals.{max_tasks, max_period}
 use Rattle.taskset.specs.Model.{task_at, SoundTasks}
 use Rattle.response.specs.declared.climb.Part.{Part}
-use Rattle.response.specs.Equation.{ceil, interference, demand}
+use Rattle.response.specs.Equation.{ceil, releases, interference, demand}
 
 -- no solution lies below w
 abbrev pub Bounds : (ℕ → ℕ) → ℕ → Type 0
@@ -46,9 +46,6 @@ scale = 2 ^ 32
 -- the load of a task, rounded down
 abbrev pub rate : Task → ℕ
 rate t = t.execution * scale / t.period
-
-abbrev pub releases : Task → ℕ → ℕ
-releases t w = ceil (w + t.jitter) t.period
 
 -- what it brings at w does not last until `reach`
 abbrev pub ends : Task → ℕ → ℕ → Bool

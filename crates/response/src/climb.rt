@@ -2,8 +2,8 @@
 
 ghost use Rattle.std.specs.Prelude.{◌≡◌, ◌≤◌};
 ghost use Rattle.taskset.specs.Refusals.{max_period, InRanges};
-ghost use Rattle.response.specs.Equation.{interference, window_of};
-ghost use Rattle.response.specs.Load.{Bounds, releases, part_of, bound_of};
+ghost use Rattle.response.specs.Equation.{releases, interference, window_of};
+ghost use Rattle.response.specs.Load.{Bounds, part_of, bound_of};
 ghost use Rattle.response.specs.Views.{demand_in};
 
 use crate::Load;
@@ -46,8 +46,8 @@ fn part_at(t: &Task, w: u64, reach: u64) -> Part
     requires w_le_max_period { w ≤ max_period }
     ensures { result ≡ part_of t.now w reach }
 {
-    let releases = releases(t, w);
-    if releases * t.period - t.jitter < reach {
+    let count = releases(t, w);
+    if count * t.period - t.jitter < reach {
         let rate = t.execution * SCALE / t.period;
         return Part {
             fixed: rate * t.jitter,
@@ -55,7 +55,7 @@ fn part_at(t: &Task, w: u64, reach: u64) -> Part
         };
     }
     Part {
-        fixed: releases * t.execution * SCALE,
+        fixed: count * t.execution * SCALE,
         rate: 0,
     }
 }

@@ -7,7 +7,7 @@ mod candidate;
 mod climb;
 mod load;
 
-ghost use Rattle.std.specs.Prelude.{◌≡◌, ◌+◌, ◌^◌, ◌≤◌, ◌<◌, take};
+ghost use Rattle.std.specs.Prelude.{◌≡◌, ◌≤◌, take};
 ghost use Rattle.taskset.specs.Refusals.{max_tasks, max_period};
 ghost use Rattle.response.specs.Equation.{demand, SaysWindow, window_of, response_time, SaysResponse};
 ghost use Rattle.response.specs.Timing.{timing_of, SaysTiming, reported};

@@ -20,7 +20,7 @@ loop-j-preserved c =
       | then-self-j+else-room-t w ↦ rw (w.kept-is, w.base-is, w.start-is, w.count-is)
           (gathered_kept sound so_far (omega arith) w.if-self-j.true (omega arith))
       | else-self-j w ↦ rw (w.kept-is, w.base-is, w.start-is, w.count-is)
-          (gathered_skipped sound so_far (omega arith) w.if-self-j.false)
+          (gathered_skipped sound so_far w.if-self-j.false)
     ]
 
 pub returns-clause-stands : goal.returns-clause-stands

@@ -159,6 +159,7 @@ static uint64_t demand(const struct task_set *s, const bool *left, uint64_t bloc
     for (size_t j = 0; j < s->ntasks; j++) {
         const struct task *t = &s->tasks[j];
         if (left[j] && j != i)
+            /* Both numbers have at most 32 bits, and a division of such takes less time. */
             sum += (uint64_t)((uint32_t)(w + t->jitter + t->period - 1) / (uint32_t)t->period) * t->execution;
     }
     return sum;

@@ -13,11 +13,11 @@ use Rattle.response.specs.Blocking.{blocking_of}
 abbrev pub ceil : ℕ → ℕ → ℕ
 ceil x t = (x + (t - 1)) / t
 
--- ⌈(w + J) / T⌉
+-- how many releases of a task fall into a window w at most: ⌈(w + J) / T⌉
 abbrev pub releases : Task → ℕ → ℕ
 releases t w = ceil (w + t.jitter) t.period
 
--- and C of each
+-- ⌈(w + J) / T⌉ × C
 unfoldable pub interference : Task → ℕ → ℕ
 interference t w = releases t w * t.execution
 

@@ -11,10 +11,8 @@ use Rattle.lines.specs.Decimal.{are_digits, value_after, is_number, digits_in, d
 use Rattle.lines.specs.Line.{line, lines_of}
 use Rattle.lines.specs.Parts.{parts}
 use Rattle.taskset.specs.declared.Task.{Task}
-use Rattle.taskset.specs.declared.Rule.{Rule}
 use Rattle.taskset.specs.Refusals.{section_on, longest_section, row_refusals, index_refusals, refusal_by}
 use Rattle.taskset.specs.Model.{Lists, no_lists, hear, heard, Sound}
-use Rattle.taskset.specs.Numbers.{task_of, rule_of}
 use Rattle.taskset.specs.Holding.{none_sound, heard_sound}
 use Rattle.taskset.specs.Exact.{calls_of}
 use Rattle.text.specs.Text.{are_numbers, has_form, asked, read_from, reading}
@@ -28,32 +26,8 @@ use Rattle.verdict.specs.Core.{tried, staying}
 use Rattle.verdict.specs.Verdict.{cored, verdict_on, deciding}
 use Rattle.verdict.specs.Solving.{assign_valid}
 use Rattle.listing.specs.Listing.{lines_below, listing_with, listing}
+use Rattle.samples.specs.Sheets.{above, sheet, sheet_a, sheet_b, sharing, between}
 use Rattle.answer.specs.Answer.{report}
-
--- a task, with a section on resource 0 alone, and a rule as their lines have them
-abbrev pub task : ℕ → ℕ → ℕ → ℕ → ℕ → Task
-task c t d j s = task_of (c ∷ t ∷ d ∷ j ∷ s ∷ 0 ∷ 0 ∷ 0 ∷ 0 ∷ 0 ∷ 0 ∷ 0 ∷ [])
-
-abbrev pub above : ℕ → ℕ → Rule
-above u l = rule_of (u ∷ l ∷ [])
-
-abbrev pub sheet : List Task → List Rule → Lists
-sheet tasks rules = record { tasks = tasks; rules = rules }
-
--- sheet A, with the jitter of task 0 and the deadline of task 2 left open, and sheet B
-abbrev pub sheet_a : ℕ → ℕ → List Task
-sheet_a j d = task 1 4 4 j 0 ∷ task 2 6 6 0 0 ∷ task 3 12 d 0 0 ∷ []
-
-abbrev pub sheet_b : List Task
-sheet_b = task 2 10 4 0 0 ∷ task 2 10 10 0 0 ∷ task 2 10 10 0 0 ∷ []
-
--- two tasks that share a resource; the second one holds it as long as it runs
-abbrev pub sharing : ℕ → List Task
-sharing s = task 1 4 4 0 1 ∷ task s 12 12 0 s ∷ []
-
--- and with a task between them that does not use it
-abbrev pub between : List Task
-between = task 1 4 4 0 1 ∷ task 1 6 6 0 0 ∷ task 3 12 12 0 3 ∷ []
 
 abbrev pub as_typed : List ℕ
 as_typed = 0 ∷ 1 ∷ 2 ∷ []

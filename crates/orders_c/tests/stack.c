@@ -1,5 +1,7 @@
 /*
  * Measures the stack that a call needs, and fails where ORDERS_STACK is less.
+ * Looks for a second list of rules on it, or a part of one, after cores were cut
+ * down, and fails where there is one.
  *
  *     stack TEXTS
  *
@@ -99,6 +101,63 @@ static struct bytes hostile(void)
     return t;
 }
 
+enum {
+    RULES = 128,
+    PART = 4 /* rules one after the other that count as a part of the list */
+};
+
+/* A rule as the library holds it. */
+struct rule {
+    uint64_t higher, lower;
+};
+
+/* Looks for a list of rules in the stack, whole or in part. */
+static size_t found(const struct rule *list, size_t rules, size_t from)
+{
+    for (size_t at = from; at + rules * sizeof *list <= ROOM; at += sizeof(uint64_t))
+        if (memcmp(stack + at, list, rules * sizeof *list) == 0)
+            return at;
+    return ROOM;
+}
+
+/* How many parts of the list stand on the stack beside the task set's own list. */
+static unsigned copies(const struct rule *list)
+{
+    size_t own = found(list, RULES, 0), end = own + RULES * sizeof *list;
+    unsigned parts = 0;
+    if (own == ROOM) {
+        fprintf(stderr, "the task set's rules are not on the stack\n");
+        exit(1);
+    }
+    for (int k = 0; k + PART <= RULES; k++)
+        for (size_t at = found(list + k, PART, 0); at < ROOM; at = found(list + k, PART, at + sizeof(uint64_t)))
+            parts += at < own || at >= end;
+    return parts;
+}
+
+/*
+ * Calls with 128 rules in circles of so many tasks, from the first one on, on a
+ * stack that was filled anew, and looks for copies of the rules: none may be
+ * there, and the search must find one that is put there.
+ */
+static void look_for_copies(struct bytes t, unsigned first, unsigned tasks)
+{
+    struct rule list[RULES];
+    for (unsigned k = 0; k < RULES; k++)
+        list[k] = (struct rule){ first + k % tasks, first + (k + 1) % tasks };
+    memset(stack, FILLER, ROOM);
+    call_there(t);
+    if (copies(list) != 0) {
+        fprintf(stderr, "a copy of the rules is on the stack\n");
+        exit(1);
+    }
+    memcpy(stack, list + 1, PART * sizeof *list);
+    if (copies(list) == 0) {
+        fprintf(stderr, "a copy of the rules was not found\n");
+        exit(1);
+    }
+}
+
 int main(int argc, char **argv)
 {
     if (argc != 2) {
@@ -114,5 +173,10 @@ int main(int argc, char **argv)
     call_there(full_late().text);
     call_there(hostile());
     printf("stack: %lu calls, %zu bytes at most, ORDERS_STACK is %d\n", calls, need(), ORDERS_STACK);
-    return need() > ORDERS_STACK;
+    if (need() > ORDERS_STACK)
+        return 1;
+    look_for_copies(full_core().text, 0, 64);
+    look_for_copies(hostile(), 6, 33);
+    printf("stack: no copy of the rules after 2 cores of 128 rules were cut down\n");
+    return 0;
 }

@@ -1,0 +1,20 @@
+-- 14, or what the trial of the set's lists finds. Assumes nothing.
+use Rattle.std.proofs.Common.{sym}
+use Rattle.taskset.specs.Views.{lists_of}
+use Rattle.feasibility.specs.TryingLaws.{trying_14, trying_made, trying_decides}
+use Rattle.feasibility.proofs.feasible.Goals as goal
+
+pub returns-in_default-clause-value : goal.returns-in_default-clause-value
+returns-in_default-clause-value c = trying_14 c.args.set.now c.args.active.now (sym c.in_default.ensures.made)
+
+pub returns-in_default-clause-says : goal.returns-in_default-clause-says
+returns-in_default-clause-says c = trying_decides _ _ _ (returns-in_default-clause-value c)
+
+pub returns-clause-value : goal.returns-clause-value
+returns-clause-value c =
+    let s = c.in-Some.system in
+    let e = c.in-Some.ensures in
+    trying_made c.args.set.now c.args.active.now (sym e.made) (lists_of s) s.sound e.lists _ c.trial.ensures.decides
+
+pub returns-clause-says : goal.returns-clause-says
+returns-clause-says c = trying_decides _ _ _ (returns-clause-value c)

@@ -1,0 +1,54 @@
+-- Trials of document 01's sheets, as facts about the definition, with one proof. Assumes nothing.
+use Rattle.std.specs.Prelude.{Ok, Err, ◌≡◌, refl, true, false, [], ◌∷◌}
+use Rattle.sets.specs.Bounded.{all, greatest, count}
+use Rattle.sets.specs.Sum.{sum}
+use Rattle.sets.specs.Maximum.{maximum}
+use Rattle.taskset.specs.declared.TaskSet.{TaskSet}
+use Rattle.taskset.specs.declared.refusals.Refusal.TheVariants.{NotMade}
+use Rattle.taskset.specs.Refusals.{section_on, longest_section, row_refusals, index_refusals, entry_fits}
+use Rattle.taskset.specs.Adding.{holding, fresh_set, task_fits, rule_fits, is_made}
+use Rattle.response.specs.Blocking.{blocking_of}
+use Rattle.response.specs.Equation.{interference, demand, window_from, window_of, response_of}
+use Rattle.assignment.specs.Audsley.{unassigned, ready, may_take, fill, feasible}
+use Rattle.samples.specs.Sheets.{above, sheet, sheet_a}
+use Rattle.feasibility.specs.Trying.{trying}
+
+-- K6: rule 1 is a core, and so is rule 2
+abbrev pub k6 : TaskSet
+k6 = holding (sheet (sheet_a 0 12) (above 1 0 ∷ above 2 0 ∷ above 2 1 ∷ []))
+
+abbrev pub k4 : TaskSet
+k4 = holding (sheet (sheet_a 0 9) [])
+
+-- no calls make it: it counts a task more than there is room for
+abbrev pub unmade : TaskSet
+unmade = record { tasks = fresh_set.tasks; ntasks = 65; rules = fresh_set.rules; nrules = 0 }
+
+pub record Examples : Type 0 where
+  pub every : trying k6 (true ∷ true ∷ true ∷ []) ≡ Ok false
+  pub one_core : trying k6 (false ∷ true ∷ false ∷ []) ≡ Ok false
+  pub other_core : trying k6 (false ∷ false ∷ true ∷ []) ≡ Ok false
+  pub neither : trying k6 (true ∷ false ∷ false ∷ []) ≡ Ok true
+  pub none : trying k6 [] ≡ Ok true
+  -- place 3 has no rule
+  pub no_rule_there : trying k6 (true ∷ false ∷ false ∷ true ∷ []) ≡ Ok true
+  -- no order meets every deadline
+  pub hopeless : trying k4 [] ≡ Ok false
+  pub no_tasks : trying fresh_set (true ∷ []) ≡ Ok true
+  pub not_made : trying unmade [] ≡ Err NotMade
+
+pub examples : Examples
+unfolding trying is_made task_fits rule_fits entry_fits row_refusals index_refusals section_on longest_section all greatest count maximum sum
+    feasible fill may_take ready unassigned demand interference blocking_of window_from window_of response_of
+examples =
+    record {
+      every = refl;
+      one_core = refl;
+      other_core = refl;
+      neither = refl;
+      none = refl;
+      no_rule_there = refl;
+      hopeless = refl;
+      no_tasks = refl;
+      not_made = refl;
+    }

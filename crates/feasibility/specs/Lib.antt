@@ -1,0 +1,4 @@
+pub mod Trying
+pub mod Decides
+pub mod Examples
+pub mod TryingLaws

@@ -1,0 +1,24 @@
+// A trial: whether some order keeps the rules in play and meets every deadline.
+
+#![tactic(auto)]
+
+ghost use Rattle.std.specs.Prelude.{◌≡◌};
+ghost use Rattle.sets.specs.Marks.{marked};
+ghost use Rattle.taskset.specs.Adding.{lists, Made};
+ghost use Rattle.feasibility.specs.Trying.{trying};
+ghost use Rattle.feasibility.specs.Decides.{Decides};
+
+use assignment::trial;
+use taskset::{MAX_RULES, Refusal, TaskSet};
+
+// Refusal 14, then whether some order keeps every active rule and meets every deadline. Marks at places without a rule are not
+// read. The set is lent, so no rule is written or copied.
+pub fn feasible(set: &TaskSet, active: &[bool; MAX_RULES]) -> Result<bool, Refusal>
+    ensures value { result ≡ trying set.now active.now }
+    ensures says { Made set.now → Decides (lists set.now) (marked active.now) result }
+{
+    let Some(system) = set.checked() else {
+        return Err(Refusal::NotMade);
+    };
+    Ok(trial(system, active).free == 0)
+}

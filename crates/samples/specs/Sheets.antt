@@ -1,0 +1,31 @@
+-- The sheets of document 01's cases, and how tasks and rules are written in facts. Assumes nothing.
+use Rattle.std.specs.Prelude.{List, [], ◌∷◌, ℕ}
+use Rattle.taskset.specs.declared.Task.{Task}
+use Rattle.taskset.specs.declared.Rule.{Rule}
+use Rattle.taskset.specs.Model.{Lists}
+use Rattle.taskset.specs.Numbers.{task_of, rule_of}
+
+-- a task, with a section on resource 0 alone, and a rule as their lines have them
+abbrev pub task : ℕ → ℕ → ℕ → ℕ → ℕ → Task
+task c t d j s = task_of (c ∷ t ∷ d ∷ j ∷ s ∷ 0 ∷ 0 ∷ 0 ∷ 0 ∷ 0 ∷ 0 ∷ 0 ∷ [])
+
+abbrev pub above : ℕ → ℕ → Rule
+above u l = rule_of (u ∷ l ∷ [])
+
+abbrev pub sheet : List Task → List Rule → Lists
+sheet tasks rules = record { tasks = tasks; rules = rules }
+
+-- sheet A, with the jitter of task 0 and the deadline of task 2 left open, and sheet B
+abbrev pub sheet_a : ℕ → ℕ → List Task
+sheet_a j d = task 1 4 4 j 0 ∷ task 2 6 6 0 0 ∷ task 3 12 d 0 0 ∷ []
+
+abbrev pub sheet_b : List Task
+sheet_b = task 2 10 4 0 0 ∷ task 2 10 10 0 0 ∷ task 2 10 10 0 0 ∷ []
+
+-- two tasks that share a resource; the second one holds it as long as it runs
+abbrev pub sharing : ℕ → List Task
+sharing s = task 1 4 4 0 1 ∷ task s 12 12 0 s ∷ []
+
+-- and with a task between them that does not use it
+abbrev pub between : List Task
+between = task 1 4 4 0 1 ∷ task 1 6 6 0 0 ∷ task 3 12 12 0 3 ∷ []

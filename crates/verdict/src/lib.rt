@@ -77,7 +77,7 @@ impl Cut {
     {
         let was = self.active[k];
         self.active[k] = false;
-        let rule = system.rules[k];
+        let rule = &system.rules[k];
         if !(self.stuck.left[rule.higher.0] & self.stuck.left[rule.lower.0]) {
             return;
         }

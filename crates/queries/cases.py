@@ -1,15 +1,14 @@
 #!/usr/bin/env python3
-"""Makes the stored cases and their answers.
+"""Makes the stored trials and their answers.
 
     cases.py PATH/enumerate.py STAGE SEED COUNT DIR
 
-STAGE is the letter of the last request of document 02 that the enumerating program holds, here c. DIR/stdin gets
-COUNT drawn cases and then the cases below, joined by form feeds (byte 12): a question on the first line, and the
-text that it is asked of. DIR/stdout gets a line for each answer, which is the enumerating program's own: `yes`
-where one of the orders that meet every deadline keeps the marked rules. The cases below also carry the answer
-that the papers give them, and the two must agree. The stored files have SEED 1 and COUNT 600.
+STAGE is the letter of the last request of document 02 that holds, here d. DIR/stdin gets COUNT drawn trials and
+then the trials below, joined by form feeds (byte 12): `trial` and the marks on the first line, and the text that
+they are asked of. DIR/stdout gets a line for each answer, which is the enumerating program's own: `yes` where one
+of the orders that meet every deadline keeps the marked rules. The trials below also carry the answer that the
+papers give them, and the two must agree. The stored files have SEED 1 and COUNT 600.
 """
-import importlib.util
 import itertools
 import os
 import random
@@ -17,13 +16,13 @@ import sys
 
 sys.dont_write_bytecode = True
 sys.path.insert(0, os.path.join(os.path.dirname(os.path.abspath(__file__)), "..", "vectors"))
-from make import A, B, EASY, GOOD, bad, r, t  # noqa: E402
+from make import A, B, EASY, GOOD, bad, load, r, store, t  # noqa: E402
 
 RULES = 128  # places for rules, used or not
 
 
 def asked(enumerating, stage, marks, text):
-    """What the enumerating program finds of the orders that keep the rules in play."""
+    """Does one of the orders that meet every deadline keep the marked rules?"""
     try:
         tasks, rules = enumerating.read(text, stage)
     except enumerating.Refused as refused:
@@ -71,23 +70,17 @@ def made():
 
 
 def main(program, stage, seed, count, room):
-    spec = importlib.util.spec_from_file_location("enumerating", program)
-    enumerating = importlib.util.module_from_spec(spec)
-    spec.loader.exec_module(enumerating)
-    cases = [(*case, asked(enumerating, stage, *case)) for case in drawn(enumerating, stage, random.Random(int(seed)), int(count))]
-    number_drawn = len(cases)
+    enumerating = load(program)
+    trials = list(drawn(enumerating, stage, random.Random(int(seed)), int(count)))
+    answers = [asked(enumerating, stage, *trial) for trial in trials]
     for marks, text, want in made():
         got = asked(enumerating, stage, marks, text)
-        if got != want:
+        if got != want or b"\f" in text:
             sys.exit("cases.py: %s of %r\nis answered by %r, and not %r" % (marks, text[:200], got, want))
-        cases.append((marks, text, got))
-    joined = b"\f".join(b"trial\t" + marks.encode() + b"\n" + text for marks, text, _ in cases)
-    if joined.count(b"\f") != len(cases) - 1 or len(joined) > 524288:
-        sys.exit("cases.py: a form feed in a text, or more bytes than the program reads")
-    with open(room + "/stdin", "wb") as stdin, open(room + "/stdout", "w") as stdout:
-        stdin.write(joined)
-        stdout.write("".join(answer for _, _, answer in cases))
-    print("%d drawn cases and %d made ones" % (number_drawn, len(cases) - number_drawn))
+        trials.append((marks, text))
+        answers.append(got)
+    store(room, [b"trial\t" + marks.encode() + b"\n" + text for marks, text in trials], answers)
+    print("%s drawn trials and %d made ones" % (count, len(trials) - int(count)))
 
 
 if __name__ == "__main__":

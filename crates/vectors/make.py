@@ -3,7 +3,7 @@
 
     make.py PATH/enumerate.py STAGE SEED COUNT DIR
 
-STAGE is the letter of the last request of document 02 that holds, here c. DIR/stdin gets those of COUNT drawn
+STAGE is the letter of the last request of document 02 that holds, here d. DIR/stdin gets those of COUNT drawn
 texts that have at most 1,000 bytes, and then the texts below, joined by form feeds (byte 12); DIR/stdout gets
 what `orders` must write for each, one after the other. Every answer is the enumerating program's own: of all
 valid orders it gives the greatest, read from the lowest level up. The texts below also carry the answer that
@@ -329,13 +329,25 @@ def check_refusals(answers):
         sys.exit("make.py: a refusal is missing")
 
 
-def main(program, stage, seed, count, room):
-    os.makedirs(room, exist_ok=True)
-    subprocess.run([sys.executable, program, "--stage", stage, "--vectors", seed, count, room], check=True)
+def load(program):
+    """The enumerating program, as a module."""
     sys.dont_write_bytecode = True
     spec = importlib.util.spec_from_file_location("enumerating", program)
     enumerating = importlib.util.module_from_spec(spec)
     spec.loader.exec_module(enumerating)
+    return enumerating
+
+
+def store(room, pieces, answers):
+    with open(room + "/stdin", "wb") as stdin, open(room + "/stdout", "w") as stdout:
+        stdin.write(b"\f".join(pieces))
+        stdout.write("".join(answers))
+
+
+def main(program, stage, seed, count, room):
+    os.makedirs(room, exist_ok=True)
+    subprocess.run([sys.executable, program, "--stage", stage, "--vectors", seed, count, room], check=True)
+    enumerating = load(program)
     with open(room + "/stdin", "rb") as stdin:
         texts = [text for text in stdin.read().split(b"\f")[:int(count)] if len(text) <= 1000]
     drawn = len(texts)
@@ -347,12 +359,9 @@ def main(program, stage, seed, count, room):
         texts.append(text)
         answers.append(got)
     check_refusals(answers[drawn:])
-    joined = b"\f".join(texts)
-    if len(joined) > 524288:
-        sys.exit("make.py: %d bytes of texts are more than the program reads" % len(joined))
-    with open(room + "/stdin", "wb") as stdin, open(room + "/stdout", "w") as stdout:
-        stdin.write(joined)
-        stdout.write("".join(answers))
+    if len(b"\f".join(texts)) > 524288:
+        sys.exit("make.py: the texts have more bytes than the program reads")
+    store(room, texts, answers)
     print("%d drawn texts and %d made ones" % (drawn, len(texts) - drawn))
 
 

@@ -1,4 +1,2 @@
 pub mod Trying
 pub mod Decides
-pub mod Examples
-pub mod TryingLaws

@@ -1,4 +1,4 @@
-// A trial: whether some order keeps the rules in play and meets every deadline.
+// A trial as a call of its own: whether some order keeps the active rules and meets every deadline.
 
 #![tactic(auto)]
 
@@ -12,7 +12,7 @@ use assignment::trial;
 use taskset::{MAX_RULES, Refusal, TaskSet};
 
 // Refusal 14, then whether some order keeps every active rule and meets every deadline. Marks at places without a rule are not
-// read. The set is lent, so no rule is written or copied.
+// read. Both are lent, so neither can change.
 pub fn feasible(set: &TaskSet, active: &[bool; MAX_RULES]) -> Result<bool, Refusal>
     ensures value { result ≡ trying set.now active.now }
     ensures says { Made set.now → Decides (lists set.now) (marked active.now) result }

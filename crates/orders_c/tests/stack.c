@@ -1,7 +1,7 @@
 /*
  * Measures the stack that a call needs, and fails where ORDERS_STACK is less.
- * Looks for a second list of rules on it, or a part of one, after cores were cut
- * down, and fails where there is one.
+ * Looks at it while cores are cut down, and fails where it has the list of rules,
+ * or a part of it, a second time.
  *
  *     stack TEXTS
  *
@@ -12,7 +12,9 @@
  *     cc -O2 -Icrates/orders_c/include crates/orders_c/tests/stack.c crates/orders_c/out/liborders_c.a -o target/stack
  */
 #define _GNU_SOURCE
+#include <signal.h>
 #include <sys/mman.h>
+#include <sys/time.h>
 #include <ucontext.h>
 #include <unistd.h>
 #include "orders.h"
@@ -26,12 +28,12 @@ enum {
 static uint8_t *stack;
 static unsigned long calls;
 
-/* The text of the next call. */
+/* The text of the next call, and what it lists. */
 static struct bytes text;
+static uint8_t listing[ORDERS_LISTING_MAX];
 
 static void call(void)
 {
-    static uint8_t listing[ORDERS_LISTING_MAX];
     orders_solve(text.at, text.len, listing, sizeof listing);
 }
 
@@ -91,7 +93,7 @@ static struct bytes hostile(void)
     for (int k = 0; k < 6; k++)
         PUT(made, t.len, "t\t%d\t%d\t%d\t0" NO_SECTIONS, rows[k][0], rows[k][1], rows[k][1]);
     for (int k = 6; k < 64; k++) {
-        PUT(made, t.len, "t\t1\t1000000\t%d\t0", k < 39 ? 1000000 : 18704 * (64 - k) + 40000);
+        PUT(made, t.len, "t\t1\t1000000\t%d\t0", k < 39 ? 1000000 : 18704 * (65 - k) + 40000);
         for (int r = 0; r < 8; r++)
             PUT(made, t.len, "\t%d", k % 8 == r);
         PUT(made, t.len, "\n");
@@ -101,61 +103,115 @@ static struct bytes hostile(void)
     return t;
 }
 
+/* ---- copies of the rules ---- */
+
 enum {
     RULES = 128,
-    PART = 4 /* rules one after the other that count as a part of the list */
+    PART = 4,     /* rules one after the other that count as a part of the list */
+    PAUSE = 100,  /* microseconds from one look at the stack to the next */
+    LOOKS = 1000, /* so many looks while a text is answered again and again */
+    DEEPEST = ROOM - ORDERS_STACK
 };
 
-/* A rule as the library holds it. */
-struct rule {
+/* A rule as the library holds it, and the rules of the text that is answered. */
+static struct rule {
     uint64_t higher, lower;
-};
+} list[RULES];
 
-/* Looks for a list of rules in the stack, whole or in part. */
-static size_t found(const struct rule *list, size_t rules, size_t from)
+/* Looks that found the task set's own list, and of these the ones that found a part of it elsewhere. */
+static volatile sig_atomic_t looks, copies;
+
+/* The rules that a text lists, all 128 of them. */
+static void list_rules(struct bytes t)
 {
-    for (size_t at = from; at + rules * sizeof *list <= ROOM; at += sizeof(uint64_t))
-        if (memcmp(stack + at, list, rules * sizeof *list) == 0)
-            return at;
-    return ROOM;
+    size_t rules = 0;
+    while (t.len > 0) {
+        struct bytes line = take_until(&t, '\n');
+        unsigned higher, lower;
+        if (sscanf((const char *)line.at, "r\t%u\t%u", &higher, &lower) == 2)
+            list[rules++] = (struct rule){ higher, lower };
+    }
 }
 
-/* How many parts of the list stand on the stack beside the task set's own list. */
-static unsigned copies(const struct rule *list)
+/* Do so many rules, from number k on, stand at this place of the stack? */
+static int stand(size_t at, size_t k, size_t rules)
 {
-    size_t own = found(list, RULES, 0), end = own + RULES * sizeof *list;
-    unsigned parts = 0;
-    if (own == ROOM) {
-        fprintf(stderr, "the task set's rules are not on the stack\n");
-        exit(1);
+    return at + rules * sizeof *list <= ROOM && memcmp(stack + at, list + k, rules * sizeof *list) == 0;
+}
+
+/* Looks at the stack. */
+static void look(void)
+{
+    size_t own = DEEPEST;
+    int found = 0;
+    while (own < ROOM && !stand(own, 0, RULES))
+        own += sizeof(uint64_t);
+    for (size_t at = DEEPEST; at + PART * sizeof *list <= ROOM; at += sizeof(uint64_t)) {
+        struct rule here;
+        memcpy(&here, stack + at, sizeof here);
+        if (here.higher == here.lower || here.higher >= 64 || (at >= own && at < own + sizeof list))
+            continue; /* no rule, or one of the task set */
+        for (size_t k = 0; k + PART <= RULES; k++)
+            if (here.higher == list[k].higher && here.lower == list[k].lower)
+                found += stand(at, k, PART);
     }
-    for (int k = 0; k + PART <= RULES; k++)
-        for (size_t at = found(list + k, PART, 0); at < ROOM; at = found(list + k, PART, at + sizeof(uint64_t)))
-            parts += at < own || at >= end;
-    return parts;
+    looks += own < ROOM;
+    copies += own < ROOM && found > 0;
+}
+
+/* The next look, in so many microseconds; none in 0. */
+static void look_in(int pause)
+{
+    struct itimerval once = { { 0, 0 }, { 0, pause } };
+    setitimer(ITIMER_REAL, &once, NULL);
+}
+
+/* A look in the midst of a call, on a stack of its own. */
+static void look_now(int signal)
+{
+    (void)signal;
+    look();
+    look_in(PAUSE);
 }
 
 /*
- * Calls with 128 rules in circles of so many tasks, from the first one on, on a
- * stack that was filled anew, and looks for copies of the rules: none may be
- * there, and the search must find one that is put there.
+ * Answers a text of 128 rules that has a core of some rules again and again, on
+ * a stack that was filled anew, and looks at the stack all the while: no part of
+ * the rules may stand anywhere but in the task set, and a look must see a part
+ * that is put there. It sees rules that are held as the task set holds them.
  */
-static void look_for_copies(struct bytes t, unsigned first, unsigned tasks)
+static void look_for_copies(struct bytes t)
 {
-    struct rule list[RULES];
-    for (unsigned k = 0; k < RULES; k++)
-        list[k] = (struct rule){ first + k % tasks, first + (k + 1) % tasks };
+    static uint8_t aside[1 << 16];
+    stack_t own = { .ss_sp = aside, .ss_size = sizeof aside };
+    struct sigaction action = { .sa_handler = look_now, .sa_flags = SA_ONSTACK | SA_RESTART };
+    list_rules(t);
     memset(stack, FILLER, ROOM);
-    call_there(t);
-    if (copies(list) != 0) {
-        fprintf(stderr, "a copy of the rules is on the stack\n");
+    looks = copies = 0;
+    if (sigaltstack(&own, NULL) != 0 || sigaction(SIGALRM, &action, NULL) != 0) {
+        perror("signal");
+        exit(2);
+    }
+    look_in(PAUSE);
+    while (looks < LOOKS)
+        call_there(t);
+    look_in(0);
+    look();
+    if (memcmp(listing, "core\t", 5) != 0 || listing[5] == '0') {
+        fprintf(stderr, "no core was cut down\n");
         exit(1);
     }
-    memcpy(stack, list + 1, PART * sizeof *list);
-    if (copies(list) == 0) {
-        fprintf(stderr, "a copy of the rules was not found\n");
+    if (copies > 0) {
+        fprintf(stderr, "a copy of the rules was on the stack at %d of %d looks\n", (int)copies, (int)looks);
         exit(1);
     }
+    memcpy(stack + DEEPEST, list + 1, PART * sizeof *list);
+    look();
+    if (copies == 0) {
+        fprintf(stderr, "a copy of the rules was not seen\n");
+        exit(1);
+    }
+    printf("stack: no copy of the rules, at %d looks\n", (int)looks - 1);
 }
 
 int main(int argc, char **argv)
@@ -175,8 +231,7 @@ int main(int argc, char **argv)
     printf("stack: %lu calls, %zu bytes at most, ORDERS_STACK is %d\n", calls, need(), ORDERS_STACK);
     if (need() > ORDERS_STACK)
         return 1;
-    look_for_copies(full_core().text, 0, 64);
-    look_for_copies(hostile(), 6, 33);
-    printf("stack: no copy of the rules after 2 cores of 128 rules were cut down\n");
+    look_for_copies(full_core().text);
+    look_for_copies(hostile());
     return 0;
 }

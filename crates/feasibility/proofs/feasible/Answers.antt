@@ -1,7 +1,7 @@
 -- 14, or what the trial of the set's lists finds. Assumes nothing.
 use Rattle.std.proofs.Common.{sym}
 use Rattle.taskset.specs.Views.{lists_of}
-use Rattle.feasibility.specs.TryingLaws.{trying_14, trying_made, trying_decides}
+use Rattle.feasibility.proofs.TryingLaws.{trying_14, trying_made, trying_decides}
 use Rattle.feasibility.proofs.feasible.Goals as goal
 
 pub returns-in_default-clause-value : goal.returns-in_default-clause-value

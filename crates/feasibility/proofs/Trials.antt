@@ -1,4 +1,4 @@
--- Trials of document 01's sheets, as facts about the definition, with one proof. Assumes nothing.
+-- Trials of document 01's sheets as facts about the definition, with one proof. Assumes nothing.
 use Rattle.std.specs.Prelude.{Ok, Err, ◌≡◌, refl, true, false, [], ◌∷◌}
 use Rattle.sets.specs.Bounded.{all, greatest, count}
 use Rattle.sets.specs.Sum.{sum}
@@ -24,7 +24,7 @@ k4 = holding (sheet (sheet_a 0 9) [])
 abbrev pub unmade : TaskSet
 unmade = record { tasks = fresh_set.tasks; ntasks = 65; rules = fresh_set.rules; nrules = 0 }
 
-pub record Examples : Type 0 where
+pub record Trials : Type 0 where
   pub every : trying k6 (true ∷ true ∷ true ∷ []) ≡ Ok false
   pub one_core : trying k6 (false ∷ true ∷ false ∷ []) ≡ Ok false
   pub other_core : trying k6 (false ∷ false ∷ true ∷ []) ≡ Ok false
@@ -37,10 +37,10 @@ pub record Examples : Type 0 where
   pub no_tasks : trying fresh_set (true ∷ []) ≡ Ok true
   pub not_made : trying unmade [] ≡ Err NotMade
 
-pub examples : Examples
+pub trials : Trials
 unfolding trying is_made task_fits rule_fits entry_fits row_refusals index_refusals section_on longest_section all greatest count maximum sum
     feasible fill may_take ready unassigned demand interference blocking_of window_from window_of response_of
-examples =
+trials =
     record {
       every = refl;
       one_core = refl;

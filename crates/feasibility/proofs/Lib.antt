@@ -1,0 +1,2 @@
+pub mod TryingLaws
+pub mod Trials

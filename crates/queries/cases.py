@@ -6,8 +6,8 @@
 STAGE is the letter of the last request of document 02 that holds, here d. DIR/stdin gets COUNT drawn trials and
 then the trials below, joined by form feeds (byte 12): `trial` and the marks on the first line, and the text that
 they are asked of. DIR/stdout gets a line for each answer, which is the enumerating program's own: `yes` where one
-of the orders that meet every deadline keeps the marked rules. The trials below also carry the answer that the
-papers give them, and the two must agree. The stored files have SEED 1 and COUNT 600.
+of the orders that meet every deadline keeps the marked rules, or the refusal of the text. The trials below also
+carry the answer that is known of them, and the two must agree. The stored files have SEED 1 and COUNT 600.
 """
 import itertools
 import os
@@ -22,7 +22,7 @@ RULES = 128  # places for rules, used or not
 
 
 def asked(enumerating, stage, marks, text):
-    """Does one of the orders that meet every deadline keep the marked rules?"""
+    """Does one of the orders that meet every deadline keep the marked rules? Or the refusal of the text."""
     try:
         tasks, rules = enumerating.read(text, stage)
     except enumerating.Refused as refused:

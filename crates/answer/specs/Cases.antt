@@ -26,7 +26,7 @@ use Rattle.verdict.specs.Core.{tried, staying}
 use Rattle.verdict.specs.Verdict.{cored, verdict_on, deciding}
 use Rattle.verdict.specs.Solving.{assign_valid}
 use Rattle.listing.specs.Listing.{lines_below, listing_with, listing}
-use Rattle.samples.specs.Sheets.{above, sheet, sheet_a, sheet_b, sharing, between}
+use Rattle.samples.specs.Sheets.{above, sheet, sheet_a, sheet_b, sharing, between, sheet_k4, sheet_k6}
 use Rattle.answer.specs.Answer.{report}
 
 abbrev pub as_typed : List ℕ
@@ -68,9 +68,9 @@ pub record Cases : Type 0 where
   pub k1 : responses_of (sheet_a 0 12) as_typed ≡ Some 1 ∷ Some 3 ∷ Some 10 ∷ []
   pub k2 : (demand (sheet_a 0 12) 2 (hp as_typed 2) 9 ≡ 10) × (demand (sheet_a 0 12) 2 (hp as_typed 2) 10 ≡ 10)
   pub k3 : SomeOrder (sheet (sheet_a 0 10) []) every_rule
-  pub k4 : (verdict_on (sheet (sheet_a 0 9) []) ≡ cored []) × (listing (sheet (sheet_a 0 9) []) (cored []) ≡ late_listing)
+  pub k4 : (verdict_on sheet_k4 ≡ cored []) × (listing sheet_k4 (cored []) ≡ late_listing)
   pub k5 : report example_text ≡ example_listing
-  pub k6 : verdict_on (sheet (sheet_a 0 12) (above 1 0 ∷ above 2 0 ∷ above 2 1 ∷ [])) ≡ cored (false ∷ false ∷ true ∷ [])
+  pub k6 : verdict_on sheet_k6 ≡ cored (false ∷ false ∷ true ∷ [])
   pub k7 : verdict_on (sheet (sheet_a 0 12) (above 0 1 ∷ above 1 0 ∷ [])) ≡ cored (true ∷ true ∷ [])
   pub k8 : verdict_on (sheet sheet_b (above 1 0 ∷ above 2 0 ∷ [])) ≡ cored (true ∷ true ∷ [])
   pub k9 : ValidOrder (sheet sheet_b (above 1 0 ∷ [])) every_rule (1 ∷ 0 ∷ 2 ∷ [])

@@ -10,30 +10,27 @@ use Rattle.taskset.specs.Adding.{holding, fresh_set, task_fits, rule_fits, is_ma
 use Rattle.response.specs.Blocking.{blocking_of}
 use Rattle.response.specs.Equation.{interference, demand, window_from, window_of, response_of}
 use Rattle.assignment.specs.Audsley.{unassigned, ready, may_take, fill, feasible}
-use Rattle.samples.specs.Sheets.{above, sheet, sheet_a}
+use Rattle.samples.specs.Sheets.{sheet_k4, sheet_k6}
 use Rattle.feasibility.specs.Trying.{trying}
 
--- K6: rule 1 is a core, and so is rule 2
-abbrev pub k6 : TaskSet
-k6 = holding (sheet (sheet_a 0 12) (above 1 0 ∷ above 2 0 ∷ above 2 1 ∷ []))
-
-abbrev pub k4 : TaskSet
-k4 = holding (sheet (sheet_a 0 9) [])
+-- the set of K6, where rule 1 is a core and so is rule 2
+abbrev pub clashing : TaskSet
+clashing = holding sheet_k6
 
 -- no calls make it: it counts a task more than there is room for
 abbrev pub unmade : TaskSet
 unmade = record { tasks = fresh_set.tasks; ntasks = 65; rules = fresh_set.rules; nrules = 0 }
 
 pub record Trials : Type 0 where
-  pub every : trying k6 (true ∷ true ∷ true ∷ []) ≡ Ok false
-  pub one_core : trying k6 (false ∷ true ∷ false ∷ []) ≡ Ok false
-  pub other_core : trying k6 (false ∷ false ∷ true ∷ []) ≡ Ok false
-  pub neither : trying k6 (true ∷ false ∷ false ∷ []) ≡ Ok true
-  pub none : trying k6 [] ≡ Ok true
+  pub every : trying clashing (true ∷ true ∷ true ∷ []) ≡ Ok false
+  pub one_core : trying clashing (false ∷ true ∷ false ∷ []) ≡ Ok false
+  pub other_core : trying clashing (false ∷ false ∷ true ∷ []) ≡ Ok false
+  pub neither : trying clashing (true ∷ false ∷ false ∷ []) ≡ Ok true
+  pub none : trying clashing [] ≡ Ok true
   -- place 3 has no rule
-  pub no_rule_there : trying k6 (true ∷ false ∷ false ∷ true ∷ []) ≡ Ok true
+  pub no_rule_there : trying clashing (true ∷ false ∷ false ∷ true ∷ []) ≡ Ok true
   -- no order meets every deadline
-  pub hopeless : trying k4 [] ≡ Ok false
+  pub hopeless : trying (holding sheet_k4) [] ≡ Ok false
   pub no_tasks : trying fresh_set (true ∷ []) ≡ Ok true
   pub not_made : trying unmade [] ≡ Err NotMade
 

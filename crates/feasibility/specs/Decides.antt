@@ -10,7 +10,7 @@ pub record Decides (l : Lists) (active : ℕ → Bool) (r : Result Bool Refusal)
   pub one : (r ≡ Ok true) ⊎ (r ≡ Ok false)
   -- yes exactly when some order keeps every marked rule and meets every deadline
   pub yes : (r ≡ Ok true) ↔ SomeOrder l active
-  -- decided: marks at places without a rule are ignored, so it answers for all marks that are the same at the rules
+  -- decided: marks at places without a rule are ignored, so the answer is that for any marks which are the same at the rules
   pub unused : (other : ℕ → Bool) → ((k : ℕ) → k < length l.rules → other k ≡ active k) → (r ≡ Ok true) ↔ SomeOrder l other
   -- decided: a set without tasks gets yes, since its one order is the empty one
   pub empty : length l.tasks ≡ 0 → r ≡ Ok true

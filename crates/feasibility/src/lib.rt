@@ -1,4 +1,4 @@
-// A trial as a call of its own: whether some order keeps the active rules and meets every deadline.
+// The call of a trial: is there an order that keeps the active rules and meets every deadline?
 
 #![tactic(auto)]
 
@@ -13,7 +13,7 @@ use taskset::{MAX_RULES, Refusal, TaskSet};
 
 // Refusal 14, then whether some order keeps every active rule and meets every deadline. Marks at places without a rule are not
 // read. Both are lent, so neither can change.
-pub fn feasible(set: &TaskSet, active: &[bool; MAX_RULES]) -> Result<bool, Refusal>
+pub fn try_rules(set: &TaskSet, active: &[bool; MAX_RULES]) -> Result<bool, Refusal>
     ensures value { result ≡ trying set.now active.now }
     ensures says { Made set.now → Decides (lists set.now) (marked active.now) result }
 {

@@ -1,7 +1,7 @@
 /*
  * Measures the stack that a call needs, and fails where ORDERS_STACK is less.
- * Looks at it while cores are cut down, and fails where it has the list of rules,
- * or a part of it, a second time.
+ * Looks at the stack while calls run that cut a core down, and fails where the
+ * list of rules, or four rules of it one after the other, stand on it twice.
  *
  *     stack TEXTS
  *
@@ -107,9 +107,10 @@ static struct bytes hostile(void)
 
 enum {
     RULES = 128,
-    PART = 4,     /* rules one after the other that count as a part of the list */
-    PAUSE = 100,  /* microseconds from one look at the stack to the next */
-    LOOKS = 1000, /* so many looks while a text is answered again and again */
+    PART = 4,      /* rules one after the other that count as a part of the list */
+    PAUSE = 100,   /* microseconds from one look at the stack to the next */
+    LOOKS = 1000,  /* so many looks while a text is answered again and again */
+    MOST = 100000, /* and at most so many calls */
     DEEPEST = ROOM - ORDERS_STACK
 };
 
@@ -118,19 +119,32 @@ static struct rule {
     uint64_t higher, lower;
 } list[RULES];
 
-/* Looks that found the task set's own list, and of these the ones that found a part of it elsewhere. */
-static volatile sig_atomic_t looks, copies;
+/* Is the timer to go on? Looks that found the list of the task set, and of these the ones that found a part of it elsewhere. */
+static volatile sig_atomic_t looking, looks, copies;
 
-/* The rules that a text lists, all 128 of them. */
+static void fail(const char *why)
+{
+    fprintf(stderr, "%s\n", why);
+    exit(1);
+}
+
+/* The rules that a text lists, which has to have 128 of them. */
 static void list_rules(struct bytes t)
 {
     size_t rules = 0;
     while (t.len > 0) {
         struct bytes line = take_until(&t, '\n');
+        char copy[64] = "";
         unsigned higher, lower;
-        if (sscanf((const char *)line.at, "r\t%u\t%u", &higher, &lower) == 2)
-            list[rules++] = (struct rule){ higher, lower };
+        memcpy(copy, line.at, line.len < sizeof copy ? line.len : sizeof copy - 1);
+        if (sscanf(copy, "r\t%u\t%u", &higher, &lower) != 2)
+            continue;
+        if (rules == RULES)
+            fail("there are too many rules");
+        list[rules++] = (struct rule){ higher, lower };
     }
+    if (rules < RULES)
+        fail("there are too few rules");
 }
 
 /* Do so many rules, from number k on, stand at this place of the stack? */
@@ -159,59 +173,64 @@ static void look(void)
     copies += own < ROOM && found > 0;
 }
 
-/* The next look, in so many microseconds; none in 0. */
-static void look_in(int pause)
+/* The next look by the timer. */
+static int look_soon(void)
 {
-    struct itimerval once = { { 0, 0 }, { 0, pause } };
-    setitimer(ITIMER_REAL, &once, NULL);
+    struct itimerval once = { { 0, 0 }, { 0, PAUSE } };
+    return setitimer(ITIMER_REAL, &once, NULL);
 }
 
-/* A look in the midst of a call, on a stack of its own. */
+/* The timer's look, wherever a call is: it runs on a stack of its own, and reads what the call is writing. */
 static void look_now(int signal)
 {
     (void)signal;
-    look();
-    look_in(PAUSE);
+    if (looking) {
+        look();
+        look_soon();
+    }
 }
 
 /*
- * Answers a text of 128 rules that has a core of some rules again and again, on
- * a stack that was filled anew, and looks at the stack all the while: no part of
- * the rules may stand anywhere but in the task set, and a look must see a part
- * that is put there. It sees rules that are held as the task set holds them.
+ * Answers a text of 128 rules, whose core is not empty, again and again on a
+ * stack that was filled anew, and looks at the stack all the while. Beside the
+ * task set's own list no part of it may stand there at any look, and a look must
+ * see a part that is put there. Only rules that are held as the task set holds
+ * them are seen; and a copy that reading or listing makes is seen as well.
  */
 static void look_for_copies(struct bytes t)
 {
     static uint8_t aside[1 << 16];
     stack_t own = { .ss_sp = aside, .ss_size = sizeof aside };
     struct sigaction action = { .sa_handler = look_now, .sa_flags = SA_ONSTACK | SA_RESTART };
+    sigset_t alarm;
+    sigemptyset(&alarm);
+    sigaddset(&alarm, SIGALRM);
     list_rules(t);
     memset(stack, FILLER, ROOM);
+    memset(listing, 0, sizeof listing);
     looks = copies = 0;
-    if (sigaltstack(&own, NULL) != 0 || sigaction(SIGALRM, &action, NULL) != 0) {
-        perror("signal");
+    looking = 1;
+    if (sigaltstack(&own, NULL) != 0 || sigaction(SIGALRM, &action, NULL) != 0 || sigprocmask(SIG_UNBLOCK, &alarm, NULL) != 0
+        || look_soon() != 0) {
+        perror("timer");
         exit(2);
     }
-    look_in(PAUSE);
-    while (looks < LOOKS)
+    for (int k = 0; looks < LOOKS && k < MOST; k++)
         call_there(t);
-    look_in(0);
+    looking = 0;
+    int seen = looks;
+    if (seen < LOOKS)
+        fail("the task set's rules were not seen on the stack");
+    if (memcmp(listing, "core\t", 5) != 0 || listing[5] == '0')
+        fail("no core was cut down");
     look();
-    if (memcmp(listing, "core\t", 5) != 0 || listing[5] == '0') {
-        fprintf(stderr, "no core was cut down\n");
-        exit(1);
-    }
-    if (copies > 0) {
-        fprintf(stderr, "a copy of the rules was on the stack at %d of %d looks\n", (int)copies, (int)looks);
-        exit(1);
-    }
+    if (copies > 0)
+        fail("a copy of the rules is on the stack");
     memcpy(stack + DEEPEST, list + 1, PART * sizeof *list);
     look();
-    if (copies == 0) {
-        fprintf(stderr, "a copy of the rules was not seen\n");
-        exit(1);
-    }
-    printf("stack: no copy of the rules, at %d looks\n", (int)looks - 1);
+    if (copies == 0)
+        fail("a copy of the rules was put on the stack and not seen");
+    printf("stack: no copy of the rules at %d looks\n", seen);
 }
 
 int main(int argc, char **argv)

@@ -3,7 +3,7 @@
 
 #![tactic(auto)]
 
-use feasibility::feasible;
+use feasibility::try_rules;
 use lines::reader::Reader;
 use std::io;
 use std::io::Read;
@@ -12,13 +12,17 @@ use text::{RefusedAt, read};
 
 const FORM_FEED: u8 = 12;
 
-// `yes` where some order keeps the rules with a 1 in these digits, one for each place from 0 on, and meets every deadline.
+// `yes` where some order keeps the rules with a 1 in these digits, at most one for each place from 0 on, and meets every deadline.
 fn yes_or_no(set: &TaskSet, digits: &[u8]) -> Result<&'static str, Refusal> {
     let mut active = [false; MAX_RULES];
     for (mark, digit) in active.iter_mut().zip(digits) {
         *mark = *digit == b'1';
     }
-    Ok(if feasible(set, &active)? { "yes" } else { "no" })
+    Ok(if try_rules(set, &active)? {
+        "yes"
+    } else {
+        "no"
+    })
 }
 
 // The answer to a question. `trial` and digits ask for a trial.

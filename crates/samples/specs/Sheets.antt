@@ -1,4 +1,4 @@
--- The sheets of document 01's cases, and how tasks and rules are written in facts. Assumes nothing.
+-- The sheets of the facts, and how tasks and rules are written there. Assumes nothing.
 use Rattle.std.specs.Prelude.{List, [], ◌∷◌, ℕ}
 use Rattle.taskset.specs.declared.Task.{Task}
 use Rattle.taskset.specs.declared.Rule.{Rule}
@@ -29,3 +29,10 @@ sharing s = task 1 4 4 0 1 ∷ task s 12 12 0 s ∷ []
 -- and with a task between them that does not use it
 abbrev pub between : List Task
 between = task 1 4 4 0 1 ∷ task 1 6 6 0 0 ∷ task 3 12 12 0 3 ∷ []
+
+-- K4 and K6 whole
+abbrev pub sheet_k4 : Lists
+sheet_k4 = sheet (sheet_a 0 9) []
+
+abbrev pub sheet_k6 : Lists
+sheet_k6 = sheet (sheet_a 0 12) (above 1 0 ∷ above 2 0 ∷ above 2 1 ∷ [])

@@ -1,3 +1,3 @@
-// The sheets of document 01's cases and their neighbours, for facts that are computed. Definitions alone: no code.
+// The sheets of the facts that are computed: definitions alone, no code.
 
 #![tactic(auto)]

@@ -2,7 +2,7 @@
 use Rattle.std.proofs.Common.{sym}
 use Rattle.taskset.specs.Views.{lists_of}
 use Rattle.feasibility.proofs.TryingLaws.{trying_14, trying_made, trying_decides}
-use Rattle.feasibility.proofs.feasible.Goals as goal
+use Rattle.feasibility.proofs.try_rules.Goals as goal
 
 pub returns-in_default-clause-value : goal.returns-in_default-clause-value
 returns-in_default-clause-value c = trying_14 c.args.set.now c.args.active.now (sym c.in_default.ensures.made)

@@ -1,3 +1,4 @@
+pub mod LevelLaws
 pub mod CanonicalLaws
 pub mod LateLaws
 pub mod Preemptive

@@ -3,6 +3,7 @@ pub mod Canonical
 pub mod Audsley
 pub mod LateTasks
 pub mod Search
+pub mod LevelWindow
 pub mod Views
 pub mod Levels
 pub mod Decision

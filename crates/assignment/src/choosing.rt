@@ -1,20 +1,23 @@
 // Who takes a level.
 
-ghost use Rattle.std.specs.Prelude.{◌≡◌, ◌<◌, T, length};
-ghost use Rattle.sets.specs.Bounded.{without};
+ghost use Rattle.std.specs.Prelude.{◌≡◌, ◌≤◌, ◌<◌, T, length};
+ghost use Rattle.sets.specs.Bounded.{Subset, without, greatest};
 ghost use Rattle.sets.specs.Marks.{marked};
 ghost use Rattle.response.specs.Blocking.{blocking_of};
+ghost use Rattle.response.specs.Resources.{BlocksEach};
+ghost use Rattle.response.specs.Agreement.{met_by};
 ghost use Rattle.response.specs.Timing.{timing_of, up_to_deadline};
 ghost use Rattle.response.specs.Views.{tasks_of, above_of};
 ghost use Rattle.assignment.specs.Orders.{no_rule};
 ghost use Rattle.assignment.specs.LateTasks.{late_response};
 ghost use Rattle.assignment.specs.Audsley.{response_at, bare};
-ghost use Rattle.assignment.specs.Search.{chosen, AnyOf, Chose, Searched, Known, Helps};
+ghost use Rattle.assignment.specs.Search.{chosen, within, AnyOf, Chose, Searched, Known, Helps};
+ghost use Rattle.assignment.specs.LevelWindow.{LevelWindow};
 ghost use Rattle.assignment.specs.Views.{candidates_at};
 
 use crate::{Choice, Hints, OpenLevel, Search};
 use response::{Candidate, level_blocking};
-use taskset::{MAX_TASKS, TaskIndex, Tasks};
+use taskset::{MAX_TASKS, Task, TaskIndex, Tasks};
 
 // A task left, with the others that are left above it.
 fn candidate<'a>(
@@ -62,16 +65,55 @@ pub fn late_response(
     candidate(tasks, left, blocking, task).timing().reported()
 }
 
+// At a level every task left has the same window, as far as its deadline reaches: that of the one of these with the most room,
+// which is its deadline less its jitter.
+fn level_window(
+    tasks: Tasks<'_>,
+    left: &[bool; MAX_TASKS],
+    these: &[bool; MAX_TASKS],
+    blocking: u64,
+) -> Option<u64>
+    requires left { Subset (length tasks.list.now) (marked these.now) (marked left.now) }
+    requires blocked { BlocksEach tasks.list.now (marked these.now) (marked left.now) blocking }
+    ensures { LevelWindow tasks.entry.list.now (marked these.now) (marked left.now) result }
+{
+    let mut most = 0;
+    let mut roomiest = TaskIndex(0);
+    for (j, t) in tasks.list.iter().enumerate() {
+        let room = t.deadline.saturating_sub(t.jitter);
+        if these[j] & (most < room) {
+            most = room;
+            roomiest = TaskIndex(j);
+        }
+    }
+    if most == 0 {
+        return None;
+    }
+    candidate(tasks, left, blocking, roomiest).window(most)
+}
+
+// The response that a window gives, where it meets the task's deadline.
+fn met(task: &Task, window: Option<u64>) -> Option<u64>
+    ensures { result ≡ met_by task.now.jitter task.now.deadline window }
+{
+    let room = task.deadline.checked_sub(task.jitter)?;
+    let window = window?;
+    if room < window {
+        return None;
+    }
+    Some(task.jitter + window)
+}
+
 // For hints: the tasks left that meet their deadline with the others that are left above them.
 pub fn passing(tasks: Tasks<'_>, left: &[bool; MAX_TASKS]) -> [bool; MAX_TASKS]
     ensures { Known (bare tasks.entry.list.now) (marked left.now) (marked result) }
 {
     let blocking = level_blocking(tasks.list, left);
+    let window = level_window(tasks, left, left, blocking);
     let mut known = [false; MAX_TASKS];
-    for j in 0..tasks.list.len() {
+    for (j, t) in tasks.list.iter().enumerate() {
         if left[j] {
-            let candidate = candidate(tasks, left, blocking, TaskIndex(j));
-            known[j] = level_response(&candidate).is_some();
+            known[j] = met(t, window).is_some();
         }
     }
     known
@@ -87,7 +129,8 @@ impl OpenLevel<'_> {
         level_response(&candidate(self.tasks, self.left, self.blocking, task))
     }
 
-    // Of the ready tasks that meet their deadline, the one with the greatest index takes the level.
+    // Of the ready tasks that meet their deadline, the one with the greatest index takes the level. The first is tried by itself,
+    // since it mostly is the one.
     #[tactic(auto, using(crate::specs::Ready::choosing_steps))]
     fn choose(&self) -> Option<Choice>
         ensures { result ≡ chosen (length self.now.tasks.list.now) (candidates_at self.now) }
@@ -96,6 +139,26 @@ impl OpenLevel<'_> {
             if self.ready[i] {
                 let task = TaskIndex(i);
                 if let Some(response) = self.response(task) {
+                    return Some(Choice { task, response });
+                }
+                return self.choose_below(i);
+            }
+        }
+        None
+    }
+
+    // The same where all from an index on are late.
+    #[tactic(auto, using(crate::specs::Ready::choosing_steps))]
+    fn choose_below(&self, end: usize) -> Option<Choice>
+        requires end_in_bounds { end ≤ length self.now.tasks.list.now }
+        requires late { greatest end (within (candidates_at self.now)) ≡ greatest (length self.now.tasks.list.now) (within (candidates_at self.now)) }
+        ensures { result ≡ chosen (length self.now.tasks.list.now) (candidates_at self.now) }
+    {
+        let window = level_window(self.tasks, self.left, self.ready, self.blocking);
+        for i in (0..end).rev() {
+            if self.ready[i] {
+                if let Some(response) = met(&self.tasks.list[i], window) {
+                    let task = TaskIndex(i);
                     return Some(Choice { task, response });
                 }
             }

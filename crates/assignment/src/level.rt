@@ -1,5 +1,7 @@
 // A level that is to be filled.
 
+ghost use Rattle.std.specs.Prelude.{length};
+ghost use Rattle.sets.specs.Bounded.{Subset};
 ghost use Rattle.sets.specs.Marks.{marked};
 ghost use Rattle.response.specs.Resources.{BlocksEach};
 
@@ -12,5 +14,6 @@ pub struct OpenLevel<'a> {
     pub ready: &'a [bool; MAX_TASKS],
     pub left: &'a [bool; MAX_TASKS],
     pub blocking: u64,
+    ghost are_left: { Subset (length tasks.list.now) (marked ready.now) (marked left.now) },
     ghost blocked: { BlocksEach tasks.list.now (marked ready.now) (marked left.now) blocking },
 }

@@ -9,13 +9,13 @@ use Rattle.std.specs.Int.{div_ceil}
 use Rattle.std.proofs.lemmas.Grind.{div_ceil_times}
 use Rattle.std.proofs.Math.Seq.{get_or-take, length-take-le}
 use Rattle.std.proofs.Math.Nat.{lt-div-mul-add, div-zero}
-use Rattle.sets.specs.Bounded.{Subset, every}
-use Rattle.sets.specs.Sum.{sum, sum_more, sum_start, sum_mono, sum_less, sum_cong, sum-le}
+use Rattle.sets.specs.Bounded.{Subset, every, without}
+use Rattle.sets.specs.Sum.{sum, sum_without, sum_more, sum_start, sum_mono, sum_less, sum_cong, sum-le}
 use Rattle.taskset.specs.declared.Task.{Task}
 use Rattle.taskset.specs.Refusals.{max_tasks, max_period, InRanges}
 use Rattle.taskset.specs.Model.{task_at, SoundTasks}
-use Rattle.response.specs.Equation.{ceil, interference, demand, response_time}
-use Rattle.response.specs.Agreement.{less-demand}
+use Rattle.response.specs.Equation.{ceil, interference, demand, window_of, response_time}
+use Rattle.response.specs.Agreement.{less-demand, met_by, response_met}
 use Rattle.response.specs.Blocking.{blocking_of}
 use Rattle.response.proofs.BlockingLaws.{blocking_fewer}
 use Rattle.response.specs.Load.{kept_at, load_demand, IsLoad}
@@ -107,6 +107,31 @@ unfolding interference
 interference_once t w low high =
     let once : ceil (w + t.jitter) t.period ≡ 1 = ceil_one (w + t.jitter) t.period (omega arith) high in
     rw once (one-mul t.execution)
+
+-- ---- at a level: with the others left above it, each task left has the same demand in a window that its period covers, for then it
+-- is released once itself
+
+module _ {tasks : List Task} (sound : SoundTasks tasks) (left : ℕ → Bool) where
+  demand_left : (i : ℕ) → i < length tasks → T (left i) → (w : ℕ) → 1 ≤ w → w + (task_at tasks i).jitter ≤ (task_at tasks i).period
+      → demand tasks i (without left i) w
+      ≡ blocking_of tasks i (without left i) + sum (length tasks) left (λ j. interference (task_at tasks j) w)
+  unfolding demand
+  demand_left i h t w low high =
+      let all = sum_without (length tasks) left (λ j. interference (task_at tasks j) w) i h t in
+      omega (arith, all, interference_once (task_at tasks i) w low high)
+
+  -- so one of them has the window of all that have no more room
+  pub response_left : (i m : ℕ) → i < length tasks → T (left i) → m < length tasks → T (left m)
+      → blocking_of tasks i (without left i) ≡ blocking_of tasks m (without left m)
+      → (limit room : ℕ) → limit ≤ (task_at tasks i).period → room + (task_at tasks m).jitter ≤ (task_at tasks m).period
+      → limit - (task_at tasks i).jitter ≤ room
+      → response_time tasks i (without left i) limit
+      ≡ met_by (task_at tasks i).jitter limit (window_of (demand tasks m (without left m)) room)
+  response_left i m hi ti hm tm blocked limit room period_i period_m less =
+      response_met (demand tasks i (without left i)) (demand tasks m (without left m)) (task_at tasks i).jitter limit room less
+      (λ w low short. demand_left i hi ti w low (omega arith)
+      ∙ ap (λ (b : ℕ). b + sum (length tasks) left (λ j. interference (task_at tasks j) w)) blocked
+      ∙ sym (demand_left m hm tm w low (omega arith)))
 
 -- ---- of a load: a base, and tasks that are kept beside it, as indices
 

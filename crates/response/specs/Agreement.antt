@@ -3,14 +3,14 @@
 use Rattle.std.specs.Prelude.{Option, Some, None}
 use Rattle.std.specs.Prelude.{◌≡◌, Bool}
 use Rattle.std.proofs.Math.Path.{refl}
-use Rattle.std.proofs.Common.{sym, ap, ap₂, subst, ⊎_elim, le_refl, le_trans, le_antisymm, eq-or-lt_of_le}
+use Rattle.std.proofs.Common.{sym, ap, ap₂, subst, ◌∙◌, ⊎_elim, le_refl, le_trans, le_antisymm, eq-or-lt_of_le}
 use Rattle.std.proofs.Math.Bool.{true, false}
 use Prim.Native.Nat.{ℕ, zero, suc, ◌+◌, ◌-◌, ◌≤◌, ◌<◌}
 use native.Mathlib.Omega.{arith}
 use borrow.Author.Tests.{leb-true, leb-false}
 use Rattle.std.proofs.Math.Dec.{leb}
 use Rattle.sets.specs.Choice.{pick}
-use Rattle.response.specs.Equation.{SaysWindow, Says, window_from, window_of, respond, response_of}
+use Rattle.response.specs.Equation.{IsWindow, SaysWindow, Says, window_from, window_of, respond, response_of}
 use Rattle.response.specs.Load.{Bounds}
 
 module _ (d : ℕ → ℕ) where
@@ -105,3 +105,30 @@ less-demand c d less jitter limit r e =
         let h = t.1.least s.0 s.1.low (le_trans (less s.0 s.1.low) s.1.met) in
         (q, f, omega (arith, s.2, t.2))
     go None f s t = absurd (omega (arith, t s.0 s.1.low (le_trans (less s.0 s.1.low) s.1.met), s.2, s.3))
+
+-- ---- and a response may be read off the window of another demand, with which it agrees up to its limit
+
+-- the response of a task that has this jitter, where its window is this one and its limit is met
+abbrev pub met_by : ℕ → ℕ → Option ℕ → Option ℕ
+met_by jitter limit None = None
+met_by jitter limit (Some w) = pick (leb (jitter + w) limit) (Some (jitter + w)) None
+
+pub response_met : (d e : ℕ → ℕ) (jitter limit room : ℕ) → limit - jitter ≤ room
+    → ((w : ℕ) → 1 ≤ w → w ≤ limit - jitter → d w ≡ e w) → response_of d jitter limit ≡ met_by jitter limit (window_of e room)
+unfolding response_of
+response_met d e jitter limit room less same =
+    ap (respond jitter) (window_same d e (limit - jitter) same) ∙ go (window_of e room) (window_says e room)
+  where
+    within : (w : ℕ) → IsWindow e w → (b : Bool) → leb (jitter + w) limit ≡ b
+        → respond jitter (window_of e (limit - jitter)) ≡ pick b (Some (jitter + w)) None
+    within w is true f =
+        ap (respond jitter) (sym (window_is e (limit - jitter) (Some w) (is, omega (arith, leb-true (jitter + w) limit f))))
+    within w is false f =
+        ap (respond jitter)
+        (sym
+        (window_is e (limit - jitter) None (λ v low met. omega (arith, is.low, is.least v low met, leb-false (jitter + w) limit f))))
+
+    go : (a : Option ℕ) → SaysWindow e room a → respond jitter (window_of e (limit - jitter)) ≡ met_by jitter limit a
+    go (Some w) s = within w s.0 (leb (jitter + w) limit) refl
+    go None s =
+        ap (respond jitter) (sym (window_is e (limit - jitter) None (λ v low met. omega (arith, less, s v low met))))

@@ -62,7 +62,7 @@ impl Candidate<'_> {
     }
 
     // The response window, searched for up to room.
-    fn window(&self, room: u64) -> Option<u64>
+    pub fn window(&self, room: u64) -> Option<u64>
         requires { room ≤ max_period }
         ensures value { result ≡ window_of (demand (tasks_of self.now) self.now.task.0 (above_of self.now)) room }
         ensures says { SaysWindow (demand (tasks_of self.now) self.now.task.0 (above_of self.now)) room result }

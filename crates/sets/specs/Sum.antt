@@ -1,9 +1,9 @@
 -- Sums over a marked set of the numbers below a bound. Assumes nothing.
-use Rattle.std.specs.Prelude.{◌≡◌, refl, Bool, true, false, ℕ, zero, suc, ◌+◌, ◌*◌, ◌≤◌, ◌<◌, T}
-use Rattle.std.proofs.Common.{sym, ⊎_elim, le_refl, le_antisymm, le_of_eq, add-le-add, mul-zero, zero-mul, suc-mul, mul-add, not-suc-le-zero, le_of_suc-le-suc, eq-or-lt_of_le, add-one, arith}
+use Rattle.std.specs.Prelude.{◌≡◌, refl, Bool, true, false, ℕ, zero, suc, ◌+◌, ◌*◌, ◌≤◌, ◌<◌, T, eqb}
+use Rattle.std.proofs.Common.{sym, ap, subst, eqb→eq, ⊎_elim, le_refl, le_antisymm, le_of_eq, add-le-add, mul-zero, zero-mul, suc-mul, mul-add, not-suc-le-zero, le_of_suc-le-suc, eq-or-lt_of_le, add-one, arith}
 use Rattle.std.proofs.Math.Nat.{le_step}
 use Rattle.sets.specs.Choice.{pick, T→true, refuted→false}
-use Rattle.sets.specs.Bounded.{Subset}
+use Rattle.sets.specs.Bounded.{Subset, without, without_still, without_other}
 
 -- ---- the sum of f over the numbers below n that are in A
 
@@ -63,6 +63,26 @@ sum_less (suc n) B A f w k h a b =
         let b' = refuted→false (B n) (rw e at b) in
         let below = sum_mono n B A f f under (λ j l t. le_refl (f j)) in
         rw (a', b', e) (omega (arith, below))
+
+-- without a member the sum lacks its term, and no other
+pub sum_without : (n : ℕ) (A : ℕ → Bool) (f : ℕ → ℕ) (k : ℕ) → k < n → T (A k) → sum n (without A k) f + f k ≡ sum n A f
+unfolding sum
+sum_without zero A f k h a = absurd (not-suc-le-zero h)
+sum_without (suc n) A f k h a = ⊎_elim at_n (λ l. under l (sum_without n A f k l a)) (eq-or-lt_of_le (le_of_suc-le-suc h))
+  where
+    at_n : k ≡ n → sum (suc n) (without A k) f + f k ≡ sum (suc n) A f
+    at_n e =
+        let rest =
+        le_antisymm (sum_mono n (without A k) A f f (λ j l t. (without_still A k j t).0) (λ j l t. le_refl (f j)))
+        (sum_mono n A (without A k) f f (λ j l t. without_other A k j (λ q. omega (arith, q, e, l)) t) (λ j l t. le_refl (f j))) in
+        let gone : without A k n ≡ false = refuted→false (without A k n) (λ t. (without_still A k n t).1 e) in
+        let here : A n ≡ true = T→true (A n) (subst (λ (q : ℕ). T (A q)) e a) in
+        rw (gone, here) (omega (arith, rest, ap f e))
+
+    under : k < n → sum n (without A k) f + f k ≡ sum n A f → sum (suc n) (without A k) f + f k ≡ sum (suc n) A f
+    under l below =
+        let same : without A k n ≡ A n = rw (refuted→false (eqb k n) (λ t. omega (arith, l, eqb→eq k n t))) refl in
+        rw same (omega (arith, below))
 
 -- equal terms give equal sums
 pub sum_cong : (n : ℕ) (A : ℕ → Bool) (f g : ℕ → ℕ) → ((j : ℕ) → j < n → f j ≡ g j) → sum n A f ≡ sum n A g

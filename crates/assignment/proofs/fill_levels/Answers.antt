@@ -58,7 +58,8 @@ says l sound e {active} {h} {from} {r} of =
 pub invariant_of-level : goal.invariant_of-level
 invariant_of-level c =
     let inv = c.loop-search.invariant in
-    record { blocked = λ i h t. inv.charged ∙ blocking_level inv.tracks i h (ready-left _ _ _ c.ready-ready.ensures i t) }
+    let are_left = ready-left _ _ _ c.ready-ready.ensures in
+    record { are_left = λ i h. are_left i; blocked = λ i h t. inv.charged ∙ blocking_level inv.tracks i h (are_left i t) }
 
 pub returns-in_default : goal.returns-in_default
 returns-in_default c =

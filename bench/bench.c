@@ -1,17 +1,27 @@
 /*
  * bench.c: times orders_solve beside plain_solve on task sets of several kinds,
- * and prints the tables in Markdown. With the word `check` it only compares.
+ * and how long a task may run beside trials, and prints the tables in Markdown.
+ * With the word `check` it only compares.
  *
  * A set is timed only after both calls gave the same number and left the same
  * bytes. The calls take turns in batches, and the least time of a call counts.
  * It is the processor time of this process, since other programs may run
  * beside it.
+ *
+ * The program `queries` is asked for the calls which the archive lacks; its
+ * processor time counts, less what it takes to read the same texts. An answer
+ * is held against what orders_solve says of the set with that execution time
+ * and with the next one.
  */
-#define _POSIX_C_SOURCE 199309L
+#define _DEFAULT_SOURCE
+#include <fcntl.h>
 #include <stdio.h>
 #include <stdlib.h>
 #include <string.h>
+#include <sys/resource.h>
+#include <sys/wait.h>
 #include <time.h>
+#include <unistd.h>
 #include "orders.h"
 
 uint64_t plain_solve(const uint8_t *text, size_t text_len, uint8_t *out, size_t out_len);
@@ -21,8 +31,9 @@ enum { FULL = 64, RULES = 128, RESOURCES = 8, SECOND = 1000000, BATCHES = 25 };
 /* A batch lasts at least this long, and a solver gets about this long for a set, in seconds. */
 static const double BATCH = 0.002, BUDGET = 0.6;
 
+/* A text, with room for a zero behind it. */
 struct text {
-    uint8_t bytes[ORDERS_TEXT_MAX];
+    uint8_t bytes[ORDERS_TEXT_MAX + 1];
     size_t len;
 };
 
@@ -405,11 +416,192 @@ static double print_table(const char *title, const struct family *f, size_t coun
     return unit;
 }
 
+/* ---- questions ---- */
+
+/* So many runs are made of the program, and in each so many cases are asked: trials, or how long a task may run. */
+enum { RUNS = 5, TRIALS = 200, LENGTHS = 10 };
+
+static const char *const program = "crates/queries/out/queries";
+
+static double of_children(void)
+{
+    struct rusage r;
+    getrusage(RUSAGE_CHILDREN, &r);
+    return (double)(r.ru_utime.tv_sec + r.ru_stime.tv_sec) + 1e-6 * (double)(r.ru_utime.tv_usec + r.ru_stime.tv_usec);
+}
+
+static void need(int holds, const char *what)
+{
+    if (holds)
+        return;
+    fprintf(stderr, "bench: can't %s\n", what);
+    exit(1);
+}
+
+/* The least time of some runs in which a question is asked so often, and the first line that is answered. */
+static double ask(const struct text *t, const char *question, unsigned cases, unsigned runs, char *answer, size_t room)
+{
+    static const char *const in = "target/bench.in", *const out = "target/bench.out";
+    FILE *f = fopen(in, "wb");
+    need(f != NULL, "write the cases");
+    for (unsigned k = 0; k < cases; k++) {
+        fprintf(f, "%s%s\n", k ? "\f" : "", question);
+        fwrite(t->bytes, 1, t->len, f);
+    }
+    need(fclose(f) == 0, "write the cases");
+    double least = 1e9;
+    for (unsigned k = 0; k < runs; k++) {
+        double before = of_children();
+        pid_t child = fork();
+        need(child >= 0, "start the program");
+        if (child == 0) {
+            if (dup2(open(in, O_RDONLY), 0) == 0 && dup2(open(out, O_WRONLY | O_CREAT | O_TRUNC, 0600), 1) == 1)
+                execl(program, program, (char *)0);
+            _exit(2);
+        }
+        int status;
+        need(waitpid(child, &status, 0) == child && status == 0, "run the program");
+        double took = of_children() - before;
+        if (took < least)
+            least = took;
+    }
+    f = fopen(out, "rb");
+    need(f != NULL && fgets(answer, (int)room, f) != NULL, "read the answers");
+    fclose(f);
+    return least;
+}
+
+/* What one call takes: the time of a run, less that of reading the texts alone. */
+static double asked(const struct text *t, const char *question, unsigned cases, char *answer, size_t room)
+{
+    double reading = ask(t, "", cases, RUNS, answer, room);
+    return (ask(t, question, cases, RUNS, answer, room) - reading) / cases;
+}
+
+/* The row at a place: C, T, D, J and the sections, and where its line begins. */
+enum { ROW = 4 + RESOURCES };
+
+static const char *row_at(const struct text *t, unsigned place, unsigned *row)
+{
+    const char *line = (const char *)t->bytes;
+    while (place-- > 0)
+        line = strchr(line, '\n') + 1;
+    const char *at = line + 1;
+    for (unsigned k = 0; k < ROW; k++)
+        row[k] = (unsigned)strtoul(at, (char **)&at, 10);
+    return line;
+}
+
+/* Does the set have an order with this execution time in a row? By the C call. */
+static int has_order(const struct text *t, unsigned place, unsigned figure)
+{
+    static struct text other;
+    static uint8_t out[ORDERS_LISTING_MAX];
+    unsigned row[ROW];
+    const char *line = row_at(t, place, row), *rest = strchr(line + 2, '\t');
+    size_t front = (size_t)(line - (const char *)t->bytes);
+    memcpy(other.bytes, t->bytes, front);
+    other.len = front + (size_t)sprintf((char *)other.bytes + front, "t\t%u", figure);
+    size_t back = t->len - (size_t)(rest - (const char *)t->bytes);
+    memcpy(other.bytes + other.len, rest, back);
+    other.len += back;
+    need(orders_solve(other.bytes, other.len, out, sizeof out) >= ORDERS_LISTED, "list a changed set");
+    return memcmp(out, "order", 5) == 0;
+}
+
+/* Sees that an answer is the last execution time with which there is an order, or that there is none with the least. */
+static void agree(const struct family *f, const struct text *t, unsigned place, const char *answer)
+{
+    unsigned row[ROW], least = 1, told, figure;
+    row_at(t, place, row);
+    for (unsigned k = 4; k < ROW; k++)
+        least = row[k] > least ? row[k] : least;
+    int right = 0;
+    if (strcmp(answer, "none\n") == 0)
+        right = !has_order(t, place, least);
+    else if (sscanf(answer, "longest\t%u\t%u\n", &told, &figure) == 2)
+        right = told == place && figure >= least && figure <= row[1] && has_order(t, place, figure)
+                && (figure == row[1] || !has_order(t, place, figure + 1));
+    if (right)
+        return;
+    fprintf(stderr, "%s: task %u: a wrong answer, %s", f->name, place, answer);
+    exit(1);
+}
+
+static void make(const struct family *f, struct text *t)
+{
+    t->len = 0;
+    f->make(t, f->tasks, f->rules);
+    t->bytes[t->len] = 0;
+}
+
+/* How long each task may run, beside a trial with every rule active, where that finds an order. Where it finds none, gives the dearest place's time. */
+static double print_longest(const struct family *f)
+{
+    static struct text t;
+    char all[8 + RULES] = "trial\t", question[32], answer[64];
+    double trial = 1e9, dearest = 0, sum = 0;
+    int found = 0;
+    make(f, &t);
+    memset(all + strlen(all), '1', RULES);
+    for (unsigned k = 0; k < f->tasks; k++) {
+        /* Now and then, since the processor's pace may vary. */
+        if (k % 16 == 0) {
+            double took = asked(&t, all, TRIALS, answer, sizeof answer);
+            trial = took < trial ? took : trial;
+            found = strcmp(answer, "yes\n") == 0;
+            need(found || strcmp(answer, "no\n") == 0, "try the set");
+        }
+        sprintf(question, "longest\t%u", k);
+        double took = asked(&t, question, LENGTHS, answer, sizeof answer);
+        agree(f, &t, k, answer);
+        sum += took;
+        dearest = took > dearest ? took : dearest;
+    }
+    if (!found)
+        return dearest;
+    printf("| %s | %.1f | %.0f | %.0f | ", f->name, 1e6 * trial, 1e6 * sum / f->tasks, 1e6 * dearest);
+    print_ratio(sum / f->tasks / (20 * trial));
+    printf(" | ");
+    print_ratio(dearest / (20 * trial));
+    printf(" |\n");
+    fflush(stdout);
+    return 0;
+}
+
+static void print_lengths(const struct family *f, size_t count)
+{
+    double others = 0;
+    printf("\n| 64 tasks | a trial, µs | the call, mean of all places, µs | the dearest place, µs | the call / 20 trials | the dearest / 20 trials |\n");
+    printf("|---|---:|---:|---:|---:|---:|\n");
+    for (size_t k = 0; k < count; k++) {
+        double dearest = print_longest(&f[k]);
+        others = dearest > others ? dearest : others;
+    }
+    printf("\nOn the sets without an order the dearest place takes %.0f µs.\n", 1e6 * others);
+}
+
 static void check(const struct family *f, size_t count)
 {
     static struct text t;
     for (size_t k = 0; k < count; k++)
         compare(&f[k], &t, &ours, &plain);
+}
+
+/* The first task, the last and some between. */
+static void check_longest(const struct family *f, size_t count)
+{
+    static struct text t;
+    char question[32], answer[64];
+    for (size_t k = 0; k < count; k++) {
+        make(&f[k], &t);
+        for (unsigned step = 0; step < 8; step++) {
+            unsigned place = (f[k].tasks - 1) * step / 7;
+            sprintf(question, "longest\t%u", place);
+            ask(&t, question, 1, 1, answer, sizeof answer);
+            agree(&f[k], &t, place, answer);
+        }
+    }
 }
 
 int main(int argc, char **argv)
@@ -418,10 +610,13 @@ int main(int argc, char **argv)
     if (argc > 1 && strcmp(argv[1], "check") == 0) {
         check(families, kinds);
         check(growth, steps);
-        printf("bench: %zu task sets, answered alike\n", kinds + steps);
+        check_longest(families, kinds);
+        check_longest(growth, steps);
+        printf("bench: %zu task sets, answered alike; how long 8 tasks of each may run is as the C call has it\n", kinds + steps);
         return 0;
     }
     double unit = print_table("64 tasks", families, kinds, 0);
     print_table("growth", growth, steps, unit);
+    print_lengths(families, kinds);
     return 0;
 }

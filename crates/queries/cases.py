@@ -1,22 +1,26 @@
 #!/usr/bin/env python3
-"""Makes the stored trials and their answers.
+"""Makes the stored questions and their answers.
 
     cases.py PATH/enumerate.py STAGE SEED COUNT DIR
 
-STAGE is the letter of the last request of document 02 that holds, here d. DIR/stdin gets COUNT drawn trials and
-then the trials below, joined by form feeds (byte 12): `trial` and the marks on the first line, and the text that
-they are asked of. DIR/stdout gets a line for each answer, which is the enumerating program's own: `yes` where one
-of the orders that meet every deadline keeps the marked rules, or the refusal of the text. The trials below also
-carry the answer that is known of them, and the two must agree. The stored files have SEED 1 and COUNT 600.
+STAGE is the letter of the last request of document 02 that holds, here e. DIR/stdin gets, joined by form feeds
+(byte 12), questions of two kinds, of each COUNT drawn ones and then those below. The first line is the question:
+`trial` and the marks, or `longest` and a place. Then comes the text that it is asked of. DIR/stdout gets a line
+for each answer, which is the enumerating program's own: of a trial `yes` where one of the orders that meet every
+deadline keeps the marked rules. The questions below also carry the answer that is known of them, and the two must
+agree. The stored files have SEED 1 and COUNT 600.
 """
 import itertools
+import json
 import os
 import random
+import subprocess
 import sys
+import tempfile
 
 sys.dont_write_bytecode = True
 sys.path.insert(0, os.path.join(os.path.dirname(os.path.abspath(__file__)), "..", "vectors"))
-from make import A, B, EASY, GOOD, bad, load, r, store, t  # noqa: E402
+from make import A, B, EASY, GOOD, RESOURCES, bad, line_of, load, on, r, store, t  # noqa: E402
 
 RULES = 128  # places for rules, used or not
 
@@ -31,7 +35,7 @@ def asked(enumerating, stage, marks, text):
     return "yes\n" if enumerating.possible(enumerating.all_broken(tasks, rules), marked) else "no\n"
 
 
-def drawn(enumerating, stage, rng, count):
+def drawn_trials(enumerating, stage, rng, count):
     for _ in range(count):
         text = enumerating.draw_text(rng, stage, 0.05)
         places = text.count(b"\nr") + rng.choice([0, 0, 1, RULES])  # marks at places without a rule too
@@ -39,7 +43,7 @@ def drawn(enumerating, stage, rng, count):
         yield "".join("1" if rng.random() < likely else "0" for _ in range(min(places, RULES))), text
 
 
-def made():
+def made_trials():
     """Marks, a text, and the answer."""
     yield "", b"", "yes\n"  # no tasks: the one order is the empty one
     yield "1" * RULES, b"", "yes\n"
@@ -69,18 +73,103 @@ def made():
         yield marks, A + r(1, 3), bad(4, 11)
 
 
+def drawn_longest(program, stage, seed, count):
+    with tempfile.NamedTemporaryFile("r") as lines:
+        subprocess.run([sys.executable, program, "--stage", stage, "--verb-vectors", seed, count, lines.name], check=True)
+        for line in lines:
+            case = json.loads(line)
+            yield "\t".join(case["args"]), case["text"].encode(), case["answer"]
+
+
+def longest(place, figure):
+    return line_of("longest", place, figure).decode() if figure else "none\n"
+
+
+def made_longest():
+    """A place, a text, and the answer."""
+    # a place without a task is 11, on a set without tasks too
+    for text, n in ((b"", 0), (GOOD, 1), (A, 3), (GOOD * 64, 64)):
+        for place in sorted({n, n + 1, 64, 65, 128, 65536, 9999999}):
+            yield place, text, bad(0, 11)
+    # one task: its deadline less its jitter, up to the period
+    for period in range(1, 6):
+        for deadline in range(1, period + 1):
+            for jitter in range(period):
+                yield 0, t(1, period, deadline, jitter), longest(0, max(deadline - jitter, 0))
+    near = {2 ** k + d for k in range(1, 20) for d in (-1, 0, 1)}
+    for deadline in sorted({*near, 999998, 999999, 1000000}):
+        yield 0, t(1, 1000000, deadline, 0), longest(0, deadline)
+    for deadline in (999998, 999999, 1000000):
+        yield 0, t(1, 1000000, deadline, 999997), longest(0, deadline - 999997)
+    # from the longest section on, whatever stands in the row
+    for own in (5, 6, 100):
+        yield 0, t(own, 100, 50, 0, 4, 5), longest(0, 50)
+        yield 0, t(own, 100, 6, 1, 5, 1), longest(0, 5)
+        yield 0, t(own, 100, 5, 1, 5, 1), longest(0, 0)
+    yield 0, t(7, 7, 7, 0, 7), longest(0, 7)
+    yield 0, t(7, 7, 6, 0, 7), longest(0, 0)
+    # sheet A; where it has no order as it stands, by the task asked of or by another; and K4
+    for place, figure in ((0, 1), (1, 3), (2, 5)):
+        yield place, A, longest(place, figure)
+    yield 0, A.replace(b"1\t4\t4", b"4\t4\t4"), longest(0, 1)
+    yield 1, A.replace(b"2\t6\t6", b"6\t6\t6"), longest(1, 3)
+    yield 2, A.replace(b"3\t12", b"12\t12"), longest(2, 5)
+    for place in (1, 2):
+        yield place, A.replace(b"1\t4\t4", b"4\t4\t4"), longest(place, 0)
+    for place, figure in ((0, 0), (1, 1), (2, 2)):
+        yield place, A.replace(b"12\t12", b"12\t9"), longest(place, figure)
+    # sheet B with rules, a circle of rules, and rules in every place
+    for place, figure in ((0, 2), (1, 2), (2, 6)):
+        yield place, B + r(1, 0), longest(place, figure)
+    for place in (0, 1, 2):
+        yield place, B + r(1, 0) + r(2, 0), longest(place, 0)
+        yield place, A + r(0, 1) + r(1, 0), longest(place, 0)
+    for place in (0, 1):
+        yield place, EASY * 2 + r(0, 1) * RULES, longest(place, 99)
+        yield place, EASY * 2 + r(0, 1) * (RULES - 1) + r(1, 0), longest(place, 0)
+    # blocking does not grow with the execution time
+    for k in range(RESOURCES):
+        shared = t(1, 4, 4, 0, *on(k, 1)) + t(3, 12, 12, 0, *on(k, 3))
+        yield 0, shared, longest(0, 1)
+        yield 1, shared, longest(1, 9)
+    # the examples
+    for name, figures in (("carton-folder", (77, 130, 137, 0)), ("door-drive", (92, 280, 250, 212, 3270, 31990)),
+                          ("packing-line", (0, 0, 0, 50, 0, 0, 0))):
+        with open(os.path.join(os.path.dirname(os.path.abspath(__file__)), "..", "..", "examples", name + ".txt"), "rb") as text:
+            example = text.read()
+        for place, figure in enumerate(figures):
+            yield place, example, longest(place, figure)
+    # refused texts, also where the place has no task
+    for place in (0, 1, 64):
+        yield place, GOOD[:-1], bad(1, 7)
+        yield place, t(5, 4, 4, 0), bad(1, 2)
+        yield place, A + r(1, 0) + r(1, 1), bad(5, 6)
+        yield place, A + r(1, 3), bad(4, 11)
+
+
 def main(program, stage, seed, count, room):
     enumerating = load(program)
-    trials = list(drawn(enumerating, stage, random.Random(int(seed)), int(count)))
-    answers = [asked(enumerating, stage, *trial) for trial in trials]
-    for marks, text, want in made():
-        got = asked(enumerating, stage, marks, text)
+    cases = []
+
+    def take(question, text, answer):
+        cases.append((question, text, answer))
+
+    def known(question, text, got, want):
         if got != want or b"\f" in text:
-            sys.exit("cases.py: %s of %r\nis answered by %r, and not %r" % (marks, text[:200], got, want))
-        trials.append((marks, text))
-        answers.append(got)
-    store(room, [b"trial\t" + marks.encode() + b"\n" + text for marks, text in trials], answers)
-    print("%s drawn trials and %d made ones" % (count, len(trials) - int(count)))
+            sys.exit("cases.py: %s of %r\nis answered by %r, and not %r" % (question, text[:200], got, want))
+        take(question, text, got)
+
+    for marks, text in drawn_trials(enumerating, stage, random.Random(int(seed)), int(count)):
+        take("trial\t" + marks, text, asked(enumerating, stage, marks, text))
+    for marks, text, want in made_trials():
+        known("trial\t" + marks, text, asked(enumerating, stage, marks, text), want)
+    for case in drawn_longest(program, stage, seed, count):
+        take(*case)
+    for place, text, want in made_longest():
+        question = ("longest", str(place))
+        known("\t".join(question), text, enumerating.answer(text, stage, question), want)
+    store(room, [question.encode() + b"\n" + text for question, text, _ in cases], [answer for _, _, answer in cases])
+    print("%d cases, of which %d are drawn" % (len(cases), 2 * int(count)))
 
 
 if __name__ == "__main__":

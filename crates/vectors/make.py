@@ -3,7 +3,7 @@
 
     make.py PATH/enumerate.py STAGE SEED COUNT DIR
 
-STAGE is the letter of the last request of document 02 that holds, here d. DIR/stdin gets those of COUNT drawn
+STAGE is the letter of the last request of document 02 that holds, here e. DIR/stdin gets those of COUNT drawn
 texts that have at most 1,000 bytes, and then the texts below, joined by form feeds (byte 12); DIR/stdout gets
 what `orders` must write for each, one after the other. Every answer is the enumerating program's own: of all
 valid orders it gives the greatest, read from the lowest level up. The texts below also carry the answer that

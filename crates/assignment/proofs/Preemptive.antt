@@ -1,21 +1,21 @@
 -- The preemptive test of document 01 as an instance: a task passes when its response lies within its deadline. Assumes nothing.
 use Rattle.std.specs.Prelude.{Option, Some, None, is_some}
 use Rattle.std.specs.Prelude.{◌≡◌, refl, Bool, true, ◌&&◌, List, ◌↔◌, ℕ, ◌-◌, ◌≤◌, ◌<◌, T, length, get_or}
-use Rattle.std.proofs.Common.{sym, subst, ⊎_elim, not-suc-le-zero, arith, eqb→eq}
+use Rattle.std.proofs.Common.{sym, subst, lt→ltb, ⊎_elim, not-suc-le-zero, arith, eqb→eq}
 use Rattle.sets.specs.Bounded.{Subset}
-use Rattle.sets.specs.Marks.{marked}
+use Rattle.sets.specs.Marks.{first, marked}
 use Rattle.taskset.specs.declared.Task.{Task}
 use Rattle.taskset.specs.declared.Rule.{Rule}
 use Rattle.taskset.specs.Model.{Lists, task_at, SoundTasks, Sound}
 use Rattle.response.specs.Equation.{demand, SaysResponse}
 use Rattle.response.specs.Agreement.{response_says}
-use Rattle.response.proofs.Demand.{fewer_above}
+use Rattle.response.proofs.Demand.{fewer_above, Shorter, shorter_response}
 use Rattle.assignment.specs.declared.Search.{Search}
-use Rattle.assignment.specs.Orders.{Valid, MeetsDeadline, ValidOrder, SomeOrder, no_rule}
+use Rattle.assignment.specs.Orders.{Valid, MeetsDeadline, ValidOrder, SomeOrder, every_rule, no_rule}
 use Rattle.assignment.specs.Canonical.{CanonicalOrder, GreatestOrder}
 use Rattle.assignment.specs.Audsley.{Passes, assign, feasible, response_at, problem, bare}
-use Rattle.assignment.specs.Levels.{valid_each, each_valid}
-use Rattle.assignment.specs.Decision.{Lawful, SomeValid, feasible_exactly, feasible_fewer}
+use Rattle.assignment.specs.Levels.{valid_other, valid_each, each_valid}
+use Rattle.assignment.specs.Decision.{Lawful, SomeValid, feasible_exactly, valid_fewer, Eases, feasible_fewer}
 use Rattle.assignment.proofs.CanonicalLaws.{greater_once, canonical_greatest, canonical_other, assign_canonical}
 use Rattle.assignment.specs.Search.{index, candidate, within, Searched, Ended, Known}
 use Rattle.assignment.specs.Hints.{known_any, NoneFrom, none_next, last_task, last_any}
@@ -33,15 +33,17 @@ meets_exactly tasks i above =
     go (Some r) s = (λ t. (s.0, s.1, omega (arith, s.2, s.3)), λ m. tt)
     go None s = (λ t. absurd t, λ m. omega (arith, s m.0 m.1.low m.1.met, m.2))
 
-meets_other : {n : ℕ} {rules : List Rule} {M N : ℕ → (ℕ → Bool) → Type 0} {active : ℕ → Bool} {order : List ℕ}
-    → ((i : ℕ) (above : ℕ → Bool) → M i above → N i above) → Valid n rules M active order → Valid n rules N active order
-meets_other change v = record { is_order = v.is_order; keeps = v.keeps; meets = λ i h. change i _ (v.meets i h) }
-
 -- so an order is valid by the one exactly when it is by the other
 pub valid_exactly : (l : Lists) (active : ℕ → Bool) (order : List ℕ)
     → Valid (length l.tasks) l.rules (Passes (problem l)) active order ↔ ValidOrder l active order
-valid_exactly l active order =
-    (meets_other (λ i above. (meets_exactly l.tasks i above).0), meets_other (λ i above. (meets_exactly l.tasks i above).1))
+valid_exactly l active order = (
+  valid_other (λ i above. (meets_exactly l.tasks i above).0) (λ k h on. on),
+  valid_other (λ i above. (meets_exactly l.tasks i above).1) (λ k h on. on),
+)
+
+-- of m rules the first m are all
+pub first_valid : (l : Lists) (order : List ℕ) → ValidOrder l (first (length l.rules)) order ↔ ValidOrder l every_rule order
+first_valid l order = (valid_fewer (λ k h on. lt→ltb k (length l.rules) h), valid_fewer (λ k h on. tt))
 
 -- ---- and fewer tasks above can't break it
 
@@ -63,6 +65,24 @@ lawful l s =
 -- also without rules
 pub bare_lawful : {tasks : List Task} → SoundTasks tasks → Lawful (bare tasks)
 bare_lawful ok = lawful _ (record { tasks = ok; few_rules = omega arith; indices = λ k h. absurd (not-suc-le-zero h) })
+
+-- ---- nor can shorter execution times
+
+pub shorter_eases : {less more : List Task} → Shorter less more → (rules : List Rule)
+    → Eases (problem (record { tasks = less; rules = rules })) (problem (record { tasks = more; rules = rules }))
+shorter_eases {less} {more} shorter rules =
+    record {
+      same_tasks = shorter.same_length;
+      same_rules = refl;
+      still = λ i above t. go i above (response_at more i above) refl t;
+    }
+  where
+    go : (i : ℕ) (above : ℕ → Bool) → (r : Option ℕ) → response_at more i above ≡ r → T (is_some r)
+        → T (is_some (response_at less i above))
+    go i above (Some r) e t =
+        let q = shorter_response shorter i above (task_at more i).deadline r e in
+        rw (shorter.deadline i, q.1) tt
+    go i above None e t = absurd t
 
 -- a ready task that is known to pass may take the level
 pub bare_known : (tasks : List Task) (ready left known : List Bool) → Known (bare tasks) (marked left) (marked known) → (i : ℕ)

@@ -2,7 +2,7 @@
 -- where it gets stuck there is none. So it decides, for any active rules, whether a valid order exists; from any levels that
 -- it could have filled it goes on to the same answer. Assumes nothing.
 use Rattle.std.specs.Prelude.{Option}
-use Rattle.std.specs.Prelude.{◌≡◌, Bool, ◌&&◌, not, List, [], ◌∷◌, ◌⊎◌, ◌↔◌, eqb, get_or, drop}
+use Rattle.std.specs.Prelude.{◌≡◌, refl, Bool, ◌&&◌, not, List, [], ◌∷◌, ◌⊎◌, ◌↔◌, eqb, get_or, drop}
 use Rattle.std.proofs.Common.{sym, ap, subst, ◌∙◌, ⊎_elim, not-suc-le-zero, le_of_suc-le-suc, eq-zero-or-pos, arith, le→leb, eqb→eq, length-drop, get_or-drop, eq-eqb}
 use Rattle.std.proofs.Math.Logic.{inl, inr}
 use Prim.Native.Nat.{ℕ, zero, suc, ◌+◌, ◌<◌}
@@ -19,7 +19,7 @@ use Rattle.assignment.specs.Canonical.{left_at, MayTake, EachMayTake}
 use Rattle.assignment.specs.Audsley.{Problem, without_rules, passes, Passes, unassigned, blocks, ready, may_take}
 use Rattle.assignment.specs.Audsley.{fill, assign, feasible, Filled, empty, level, Stuck}
 use Rattle.assignment.specs.LateTasks.{EachMay}
-use Rattle.assignment.specs.Levels.{unassigned_of, unassigned_is, each_only, each_count, each_order, may_other}
+use Rattle.assignment.specs.Levels.{unassigned_of, unassigned_is, each_only, each_count, each_order, valid_other, may_other}
 use Rattle.assignment.specs.Levels.{left-unassigned, valid_each, each_valid}
 
 -- what the argument asks of a problem: the higher task of a rule is one of its tasks, and fewer tasks above can't break the test
@@ -213,28 +213,47 @@ module _ (p : Problem) (active : ℕ → Bool) where
       let levels = length (assign p active) in
       (λ t. d.0 (eqb→eq levels p.tasks t), λ s. true→T (eqb levels p.tasks) (eq-eqb levels p.tasks (d.1 s)))
 
--- ---- fewer active rules
+-- ---- what breaks no more: fewer active rules, and an easier test
 
--- a valid order stays so, whatever a deadline met means
+-- a valid order stays so with fewer rules, whatever a deadline met means
 pub valid_fewer : {n : ℕ} {rules : List Rule} {Meets : ℕ → (ℕ → Bool) → Type 0} {less more : ℕ → Bool} {order : List ℕ}
     → Subset (length rules) less more → Valid n rules Meets more order → Valid n rules Meets less order
-valid_fewer fewer v = record { is_order = v.is_order; keeps = λ k h on. v.keeps k h (fewer k h on); meets = v.meets }
+valid_fewer fewer = valid_other (λ i above m. m) fewer
 
-module _ (p : Problem) (less more : ℕ → Bool) (fewer : Subset (length p.rules) less more) where
-  pub may_fewer : (left : ℕ → Bool) (i : ℕ) → T (may_take p more left i) → T (may_take p less left i)
-  may_fewer left i t = may_test p less left i (may_other (λ i above m. m) fewer (test_may p more left i t))
+-- q has the tasks and rules of p, and its test passes whatever that of p passes
+pub record Eases (q p : Problem) : Type 0 where
+  pub same_tasks : q.tasks ≡ p.tasks
+  pub same_rules : q.rules ≡ p.rules
+  pub still : (i : ℕ) (above : ℕ → Bool) → T (passes p i above) → T (passes q i above)
+
+module _ {q p : Problem} (eases : Eases q p) (less more : ℕ → Bool) (fewer : Subset (length p.rules) less more) where
+  may_eased : (left : ℕ → Bool) (i : ℕ) → T (may_take p more left i) → T (may_take q less left i)
+  may_eased left i t =
+      may_test q less left i
+      (subst (λ (rules : List Rule). MayTake rules (Passes q) less left i) (sym eases.same_rules)
+      (may_other eases.still fewer (test_may p more left i t)))
 
   -- the same levels may be filled
-  pub filled_fewer : (low : List ℕ) → Filled p more low → Filled p less low
-  filled_fewer all empty = empty
-  filled_fewer all (level i low h t f) = level i low h (may_fewer (unassigned p.tasks low) i t) (filled_fewer low f)
+  pub filled_eased : (low : List ℕ) → Filled p more low → Filled q less low
+  filled_eased all empty = empty
+  filled_eased all (level i low h t f) =
+      level i low (rw eases.same_tasks h)
+      (subst (λ (n : ℕ). T (may_take q less (unassigned n low) i)) (sym eases.same_tasks) (may_eased (unassigned p.tasks low) i t))
+      (filled_eased low f)
 
   -- and what was feasible stays so
+  pub feasible_eased : Lawful q → Lawful p → T (feasible p more) → T (feasible q less)
+  feasible_eased lawful_q lawful_p t =
+      let s = (feasible_exactly p more lawful_p).0 t in
+      (feasible_exactly q less lawful_q).1
+      (s.0, rw (eases.same_tasks, eases.same_rules) (valid_other eases.still fewer s.1))
+
+pub eases_itself : (p : Problem) → Eases p p
+eases_itself p = record { same_tasks = refl; same_rules = refl; still = λ i above t. t }
+
+module _ (p : Problem) (less more : ℕ → Bool) (fewer : Subset (length p.rules) less more) where
   pub feasible_fewer : Lawful p → T (feasible p more) → T (feasible p less)
-  feasible_fewer lawful t =
-      let s = (feasible_exactly p more lawful).0 t in
-      (feasible_exactly p less lawful).1
-      (s.0, valid_fewer fewer s.1)
+  feasible_fewer lawful = feasible_eased (eases_itself p) less more fewer lawful lawful
 
 -- a rule whose two tasks are not both left puts nobody below anybody there, so whoever may take the level without it may with it
 pub may_without : (p : Problem) (active left : ℕ → Bool) (k : ℕ)

@@ -18,7 +18,7 @@ use Rattle.assignment.specs.declared.Choice.{Choice}
 use Rattle.assignment.specs.declared.Search.{Search}
 use Rattle.assignment.specs.Audsley.{Problem, ready, unassigned, may_take, fill, assign, feasible, empty, level, Stuck}
 use Rattle.assignment.specs.Levels.{unassigned_cons}
-use Rattle.assignment.specs.Decision.{Lawful, filled_count, filled_fewer, ends_decide, feasible_exactly}
+use Rattle.assignment.specs.Decision.{Lawful, filled_count, ends_decide, feasible_exactly, Eases, eases_itself, filled_eased}
 use Rattle.assignment.specs.Search.{index, time, candidate, within, choice_of, chosen, AnyOf, lowest, Holds, candidates, placed}
 use Rattle.assignment.specs.Search.{Searched, Ended, responses, HoldsLevels, Assigns}
 
@@ -231,11 +231,20 @@ module _ (p : Problem) (active : ℕ → Bool) where
             sym (fills r.0 r.1 more (Some c.task.0) best.0) ∙ r.2,
           )
 
--- with fewer rules active it may have filled the same levels
+-- where less is broken it may have filled the same levels
+pub searched_eased : {q p : Problem} → Eases q p → (less more : ℕ → Bool) → Subset (length p.rules) less more → (s : Search)
+    → Searched p more s → Searched q less s
+searched_eased eases less more fewer s held =
+    record {
+      low = held.low;
+      times = held.times;
+      filled = filled_eased eases less more fewer held.low held.filled;
+      holds = rw eases.same_tasks held.holds;
+    }
+
 pub searched_fewer : (p : Problem) (less more : ℕ → Bool) → Subset (length p.rules) less more → (s : Search)
     → Searched p more s → Searched p less s
-searched_fewer p less more fewer s held =
-    record { low = held.low; times = held.times; filled = filled_fewer p less more fewer held.low held.filled; holds = held.holds }
+searched_fewer p less more fewer = searched_eased (eases_itself p) less more fewer
 
 -- ---- from the start
 

@@ -91,9 +91,16 @@ module _ (n : ℕ) (rules : List Rule) (Meets : ℕ → (ℕ → Bool) → Type 
   each_order low each whole =
       record { only = each_only low each; every = λ i h. assigned n low i h (none_left low each whole i); once = each_once low each }
 
--- ---- who may take a level
+-- ---- fewer rules, and another meaning of a deadline met that holds too
 
--- fewer rules and another test that passes too let the same tasks take it
+-- keep an order valid
+pub valid_other : {n : ℕ} {rules : List Rule} {M N : ℕ → (ℕ → Bool) → Type 0} {less more : ℕ → Bool} {order : List ℕ}
+    → ((i : ℕ) (above : ℕ → Bool) → M i above → N i above) → Subset (length rules) less more
+    → Valid n rules M more order → Valid n rules N less order
+valid_other change fewer v =
+    record { is_order = v.is_order; keeps = λ k h on. v.keeps k h (fewer k h on); meets = λ i h. change _ _ (v.meets i h) }
+
+-- and let the same tasks take a level
 pub may_other : {rules : List Rule} {M N : ℕ → (ℕ → Bool) → Type 0} {more less left : ℕ → Bool} {i : ℕ}
     → ((i : ℕ) (above : ℕ → Bool) → M i above → N i above) → Subset (length rules) less more
     → MayTake rules M more left i → MayTake rules N less left i

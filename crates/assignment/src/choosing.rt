@@ -65,15 +65,15 @@ pub fn late_response(
     candidate(tasks, left, blocking, task).timing().reported()
 }
 
-// At a level every task left has the same window, as far as its deadline reaches: that of the one of these with the most room,
-// which is its deadline less its jitter.
+// At a level every task left has the same window, as far as its deadline reaches. It is searched for with the one of these that has
+// the most room, which is the deadline less the jitter.
 fn level_window(
     tasks: Tasks<'_>,
     left: &[bool; MAX_TASKS],
     these: &[bool; MAX_TASKS],
     blocking: u64,
 ) -> Option<u64>
-    requires left { Subset (length tasks.list.now) (marked these.now) (marked left.now) }
+    requires are_left { Subset (length tasks.list.now) (marked these.now) (marked left.now) }
     requires blocked { BlocksEach tasks.list.now (marked these.now) (marked left.now) blocking }
     ensures { LevelWindow tasks.entry.list.now (marked these.now) (marked left.now) result }
 {
@@ -147,7 +147,7 @@ impl OpenLevel<'_> {
         None
     }
 
-    // The same where all from an index on are late.
+    // The same where no task from `end` on may take the level.
     #[tactic(auto, using(crate::specs::Ready::choosing_steps))]
     fn choose_below(&self, end: usize) -> Option<Choice>
         requires end_in_bounds { end ≤ length self.now.tasks.list.now }

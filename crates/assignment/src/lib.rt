@@ -66,7 +66,7 @@ fn lowest_free(free: usize) -> PriorityLevel
 
 impl Search {
     // A search among n tasks with no level filled.
-    fn fresh(n: usize) -> Search
+    pub fn fresh(n: usize) -> Search
         requires { n ≤ max_tasks }
         ensures { Holds n [] [] result }
     {

@@ -10,16 +10,12 @@ use Rattle.taskset.specs.Adding.{holding, fresh_set, task_fits, rule_fits, is_ma
 use Rattle.response.specs.Blocking.{blocking_of}
 use Rattle.response.specs.Equation.{interference, demand, window_from, window_of, response_of}
 use Rattle.assignment.specs.Audsley.{unassigned, ready, may_take, fill, feasible}
-use Rattle.samples.specs.Sheets.{sheet_k4, sheet_k6}
+use Rattle.samples.specs.Sheets.{sheet_k4, sheet_k6, unmade}
 use Rattle.feasibility.specs.Trying.{trying}
 
 -- the set of K6, where rule 1 is a core and so is rule 2
 abbrev pub clashing : TaskSet
 clashing = holding sheet_k6
-
--- no calls make it: it counts a task more than there is room for
-abbrev pub unmade : TaskSet
-unmade = record { tasks = fresh_set.tasks; ntasks = 65; rules = fresh_set.rules; nrules = 0 }
 
 pub record Trials : Type 0 where
   pub every : trying clashing (true ∷ true ∷ true ∷ []) ≡ Ok false

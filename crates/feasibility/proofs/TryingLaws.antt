@@ -8,8 +8,7 @@ use Rattle.taskset.specs.declared.refusals.Refusal.{Refusal}
 use Rattle.taskset.specs.declared.refusals.Refusal.TheVariants.{NotMade}
 use Rattle.taskset.specs.Model.{Lists, Sound}
 use Rattle.taskset.specs.Adding.{is_made, lists, Made}
-use Rattle.taskset.specs.Holding.{lists-holding}
-use Rattle.taskset.specs.Exact.{made_holding, made_passes}
+use Rattle.taskset.specs.Exact.{made_sound, made_passes}
 use Rattle.assignment.specs.Orders.{SomeOrder}
 use Rattle.assignment.specs.Audsley.{Problem, feasible, fill, problem}
 use Rattle.assignment.specs.Decision.{valid_fewer}
@@ -75,6 +74,5 @@ pub trying_decides : (s : TaskSet) (active : List Bool) (r : Result Bool Refusal
     → Decides (lists s) (marked active) r
 unfolding trying
 trying_decides s active r e made =
-    let h = made_holding s made in
-    let sound : Sound (lists s) = subst Sound (sym (lists-holding h.0) ∙ ap lists (sym h.2)) h.1 in
-    subst (Decides (lists s) (marked active)) (sym (e ∙ rw (made_passes s made) refl)) (feasible_decides (lists s) sound (marked active))
+    subst (Decides (lists s) (marked active)) (sym (e ∙ rw (made_passes s made) refl))
+    (feasible_decides (lists s) (made_sound s made) (marked active))

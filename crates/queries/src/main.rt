@@ -4,35 +4,50 @@
 #![tactic(auto)]
 
 use feasibility::try_rules;
+use lines::number_from;
 use lines::reader::Reader;
+use sensitivity::longest_execution;
 use std::io;
 use std::io::Read;
-use taskset::{MAX_RULES, Refusal, TaskSet};
+use taskset::{MAX_RULES, Refusal, TaskIndex, TaskSet};
 use text::{RefusedAt, read};
 
 const FORM_FEED: u8 = 12;
 
-// `yes` where some order keeps the rules with a 1 in these digits, at most one for each place from 0 on, and meets every deadline.
-fn yes_or_no(set: &TaskSet, digits: &[u8]) -> Result<&'static str, Refusal> {
+// What a question gets.
+enum Reply {
+    Trial(bool),
+    Longest(u64, Option<u64>),
+    NoQuestion,
+}
+
+// Whether some order keeps the rules with a 1 in these digits, at most one for each place from 0 on, and meets every deadline.
+fn try_digits(set: &TaskSet, digits: &[u8]) -> Result<bool, Refusal> {
     let mut active = [false; MAX_RULES];
     for (mark, digit) in active.iter_mut().zip(digits) {
         *mark = *digit == b'1';
     }
-    Ok(if try_rules(set, &active)? {
-        "yes"
-    } else {
-        "no"
-    })
+    try_rules(set, &active)
 }
 
-// The answer to a question. `trial` and digits ask for a trial.
-fn answer(question: &[u8], text: &[u8]) -> Result<&'static str, RefusedAt> {
+// The answer to a question. `trial` and digits ask for a trial, `longest` and a place how long the task there may run.
+fn answer(question: &[u8], text: &[u8]) -> Result<Reply, RefusedAt> {
     let reading = read(text);
     reading.answer?;
-    match question.strip_prefix(b"trial\t") {
-        Some(digits) => Ok(yes_or_no(&reading.set, digits)?),
-        None => Ok("no question"),
+    if let Some(digits) = question.strip_prefix(b"trial\t") {
+        return Ok(Reply::Trial(try_digits(&reading.set, digits)?));
     }
+    let Some(digits) = question.strip_prefix(b"longest\t") else {
+        return Ok(Reply::NoQuestion);
+    };
+    let Some(place) = number_from(digits, 0) else {
+        return Ok(Reply::NoQuestion);
+    };
+    if place.end < digits.len() {
+        return Ok(Reply::NoQuestion);
+    }
+    let longest = longest_execution(&reading.set, TaskIndex(place.value as usize))?;
+    Ok(Reply::Longest(place.value, longest))
 }
 
 // Answers each case.
@@ -43,7 +58,13 @@ fn main(rt: HostRuntime) -> io::Result<()> {
         let mut reader = Reader::stand(case, 0);
         let question = reader.next_line().unwrap_or(&[]);
         match answer(question, &case[reader.at..]) {
-            Ok(word) => println!(rt; "{word}")?,
+            Ok(Reply::Trial(true)) => println!(rt; "yes")?,
+            Ok(Reply::Trial(false)) => println!(rt; "no")?,
+            Ok(Reply::Longest(place, Some(longest))) => println!(rt;
+                "longest\t{place}\t{longest}"
+            )?,
+            Ok(Reply::Longest(_, None)) => println!(rt; "none")?,
+            Ok(Reply::NoQuestion) => println!(rt; "no question")?,
             Err(at) => println!(rt; "bad\t{}\t{}", at.line, u64::from(at.refusal))?,
         }
     }

@@ -1,8 +1,9 @@
 -- The function `blocking_of` gives what its relation says, and nothing else does; the lowest task has none; and with fewer tasks above,
 -- what blocking gains is a section of a task that is no longer above. Assumes nothing.
-use Rattle.std.specs.Prelude.{◌≡◌, Bool, ◌&&◌, not, List, ◌⊎◌, ◌↔◌, T, eqb, length}
-use Rattle.std.proofs.Common.{sym, subst, ◌∙◌, inr, le_antisymm, arith, eqb→eq, eq-eqb}
+use Rattle.std.specs.Prelude.{◌≡◌, refl, Bool, ◌&&◌, ◌||◌, not, List, ◌⊎◌, ◌↔◌, T, eqb, ltb, length, get_or}
+use Rattle.std.proofs.Common.{sym, ap₂, subst, ◌∙◌, inr, le_antisymm, arith, eqb→eq, eq-eqb}
 use Rattle.std.proofs.Math.Logic.{inl, ⊎_elim}
+use Rattle.std.proofs.Math.Path.{fun_ext}
 use Prim.Native.Nat.{ℕ, ◌≤◌, ◌<◌}
 use Rattle.sets.specs.Choice.{and_intro, and_left, and_right, or_left, or_right, or_elim, not→refuted, refuted→not, true→T, decided}
 use Rattle.sets.specs.Bounded.{Subset, any, any_found, any_of}
@@ -134,3 +135,21 @@ module _ {tasks : List Task} (sound : SoundTasks tasks) (i : ℕ) where
             used = m.used;
           })))
           (decided (above j))
+
+-- ---- it is a matter of the sections alone
+
+module _ (i : ℕ) (above : ℕ → Bool) where
+  -- the same over the sections of each of n rows
+  abbrev by_sections : ℕ → (ℕ → List ℕ) → ℕ
+  by_sections n sections =
+      let on : ℕ → ℕ → ℕ = λ j k. get_or (sections j) k 0 in
+      maximum n (is_below i above) (λ j. maximum resources (λ k. ltb 0 (on i k) || any n (λ j. above j && ltb 0 (on j k))) (on j))
+
+  of_sections : (tasks : List Task) → blocking_of tasks i above ≡ by_sections (length tasks) (λ j. (task_at tasks j).sections)
+  unfolding blocking_of section_on
+  of_sections tasks = refl
+
+  pub blocking_same : (tasks others : List Task) → length tasks ≡ length others
+      → ((j : ℕ) → (task_at tasks j).sections ≡ (task_at others j).sections) → blocking_of tasks i above ≡ blocking_of others i above
+  blocking_same tasks others size same =
+      of_sections tasks ∙ ap₂ by_sections size (fun_ext same) ∙ sym (of_sections others)

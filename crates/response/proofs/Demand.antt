@@ -14,10 +14,10 @@ use Rattle.sets.specs.Sum.{sum, sum_without, sum_more, sum_start, sum_mono, sum_
 use Rattle.taskset.specs.declared.Task.{Task}
 use Rattle.taskset.specs.Refusals.{max_tasks, max_period, InRanges}
 use Rattle.taskset.specs.Model.{task_at, SoundTasks}
-use Rattle.response.specs.Equation.{ceil, interference, demand, window_of, response_time}
+use Rattle.response.specs.Equation.{ceil, releases, interference, demand, window_of, response_time}
 use Rattle.response.specs.Agreement.{less-demand, met_by, response_met}
 use Rattle.response.specs.Blocking.{blocking_of}
-use Rattle.response.proofs.BlockingLaws.{blocking_fewer}
+use Rattle.response.proofs.BlockingLaws.{blocking_fewer, blocking_same}
 use Rattle.response.specs.Load.{kept_at, load_demand, IsLoad}
 
 -- ---- rounding up
@@ -60,6 +60,12 @@ pub interference_mono : (t : Task) (v w : ℕ) → v ≤ w → interference t v 
 unfolding interference
 interference_mono t v w h = mul-le-mul_right t.execution (ceil_mono (v + t.jitter) (w + t.jitter) t.period (omega arith))
 
+-- and with the execution time
+interference_shorter : (s t : Task) (w : ℕ) → s.period ≡ t.period → s.jitter ≡ t.jitter → s.execution ≤ t.execution
+    → interference s w ≤ interference t w
+unfolding interference
+interference_shorter s t w period jitter h = rw (period, jitter) (mul-le-mul_left (releases t w) h)
+
 -- a task in its ranges brings at most what its releases span
 pub interference-le : (t : Task) (w : ℕ) → InRanges t → interference t w ≤ w + 2 * max_period
 unfolding interference
@@ -100,6 +106,31 @@ module _ {tasks : List Task} (sound : SoundTasks tasks) (i : ℕ) where
       → (q : ℕ) × (response_time tasks i fewer limit ≡ Some q) × (q ≤ r)
   fewer_above fewer above sub =
       less-demand (demand tasks i fewer) (demand tasks i above) (demand_fewer fewer above sub) (task_at tasks i).jitter
+
+-- ---- rows that are the same but for execution times, of which none is longer
+
+pub record Shorter (less more : List Task) : Type 0 where
+  pub same_length : length less ≡ length more
+  pub period : (j : ℕ) → (task_at less j).period ≡ (task_at more j).period
+  pub deadline : (j : ℕ) → (task_at less j).deadline ≡ (task_at more j).deadline
+  pub jitter : (j : ℕ) → (task_at less j).jitter ≡ (task_at more j).jitter
+  pub sections : (j : ℕ) → (task_at less j).sections ≡ (task_at more j).sections
+  pub execution : (j : ℕ) → (task_at less j).execution ≤ (task_at more j).execution
+
+module _ {less more : List Task} (shorter : Shorter less more) (i : ℕ) (above : ℕ → Bool) where
+  demand_shorter : (w : ℕ) → demand less i above w ≤ demand more i above w
+  unfolding demand
+  demand_shorter w =
+      let brings = sum_mono (length more) above above (λ j. interference (task_at less j) w) (λ j. interference (task_at more j) w)
+      (λ j h t. t) (λ j h t. interference_shorter (task_at less j) (task_at more j) w (shorter.period j) (shorter.jitter j) (shorter.execution j)) in
+      rw (blocking_same i above less more shorter.same_length shorter.sections, shorter.same_length) (omega (arith, shorter.execution i, brings))
+
+  -- never lengthen a response
+  pub shorter_response : (limit r : ℕ) → response_time more i above limit ≡ Some r
+      → (q : ℕ) × (response_time less i above limit ≡ Some q) × (q ≤ r)
+  shorter_response =
+      rw (shorter.jitter i)
+      (less-demand (demand less i above) (demand more i above) (λ w low. demand_shorter w) (task_at more i).jitter)
 
 -- a task is released once in a window from 1 on whose end, its jitter later, is no later than its period
 pub interference_once : (t : Task) (w : ℕ) → 1 ≤ w → w + t.jitter ≤ t.period → interference t w ≡ t.execution

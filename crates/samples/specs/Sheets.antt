@@ -2,7 +2,9 @@
 use Rattle.std.specs.Prelude.{List, [], ◌∷◌, ℕ}
 use Rattle.taskset.specs.declared.Task.{Task}
 use Rattle.taskset.specs.declared.Rule.{Rule}
+use Rattle.taskset.specs.declared.TaskSet.{TaskSet}
 use Rattle.taskset.specs.Model.{Lists}
+use Rattle.taskset.specs.Adding.{fresh_set}
 use Rattle.taskset.specs.Numbers.{task_of, rule_of}
 
 -- a task, with a section on resource 0 alone, and a rule as their lines have them
@@ -36,3 +38,7 @@ sheet_k4 = sheet (sheet_a 0 9) []
 
 abbrev pub sheet_k6 : Lists
 sheet_k6 = sheet (sheet_a 0 12) (above 1 0 ∷ above 2 0 ∷ above 2 1 ∷ [])
+
+-- ---- a set that no calls make: it counts a task more than there is room for
+abbrev pub unmade : TaskSet
+unmade = record { tasks = fresh_set.tasks; ntasks = 65; rules = fresh_set.rules; nrules = 0 }

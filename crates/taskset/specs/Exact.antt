@@ -1,6 +1,6 @@
 -- Refusal 14 is exact: the check passes just the sets that calls make. Assumes nothing.
 use Rattle.std.specs.Prelude.{◌≡◌, refl, Bool, true, List, [], ◌∷◌, ◌++◌, map, ◌↔◌, ℕ, suc, ◌+◌, ◌≤◌, ◌<◌, length}
-use Rattle.std.proofs.Common.{sym, ap, ◌∙◌, append-nil, suc-le-suc, zero-lt-suc, arith, length-append}
+use Rattle.std.proofs.Common.{sym, ap, subst, ◌∙◌, append-nil, suc-le-suc, zero-lt-suc, arith, length-append}
 use Rattle.std.proofs.Math.Seq.{append_snoc}
 use Rattle.taskset.specs.declared.Task.{Task}
 use Rattle.taskset.specs.declared.Rule.{Rule}
@@ -11,7 +11,7 @@ use Rattle.taskset.specs.Refusals.{max_tasks, max_rules, InRanges, Between, Acce
 use Rattle.taskset.specs.Model.{Lists, no_lists, extended, hear, heard, task_at, rule_at, Sound}
 use Rattle.taskset.specs.Adding.{holding, lists, fresh_set, is_made, add, run, Made}
 use Rattle.taskset.specs.RefusalLaws.{taken_exactly}
-use Rattle.taskset.specs.Holding.{none_sound, heard_sound, sound_made, run-holding}
+use Rattle.taskset.specs.Holding.{lists-holding, none_sound, heard_sound, sound_made, run-holding}
 use Rattle.taskset.specs.Passing.{Sized, passed}
 
 -- ---- what calls make passes
@@ -23,6 +23,10 @@ made_holding s m =
 
 pub made_passes : (s : TaskSet) → Made s → is_made s ≡ true
 made_passes s m = let h = made_holding s m in ap is_made h.2 ∙ sound_made h.0 h.1
+
+-- so adding has taken its lists
+pub made_sound : (s : TaskSet) → Made s → Sound (lists s)
+made_sound s m = let h = made_holding s m in subst Sound (sym (lists-holding h.0) ∙ ap lists (sym h.2)) h.1
 
 -- ---- lists that adding takes are heard whole
 

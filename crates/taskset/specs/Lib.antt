@@ -6,6 +6,7 @@ pub mod Numbers
 pub mod Views
 pub mod RefusalLaws
 pub mod Holding
+pub mod RowLaws
 pub mod Passing
 pub mod Exact
 pub mod AddingLaws

@@ -66,9 +66,9 @@ inside low high x = (
 )
 
 -- the longest of a row that has a section on each resource
-pub longest_of : (t : Task) → length t.sections ≡ resources → longest_section t ≡ fold max 0 t.sections
+pub longest_section_of : (t : Task) → length t.sections ≡ resources → longest_section t ≡ fold max 0 t.sections
 unfolding longest_section section_on
-longest_of t long = rw (← long) (maximum-items t.sections)
+longest_section_of t long = rw (← long) (maximum-items t.sections)
 
 -- no section is longer than c exactly when the longest is not
 pub longest_exactly : (t : Task) (c : ℕ) → (longest_section t ≤ c) ↔ ((k : ℕ) → k < resources → section_on t k ≤ c)

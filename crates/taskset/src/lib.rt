@@ -118,8 +118,8 @@ impl Task {
     }
 
     // The longest of its sections.
-    #[tactic(auto, using(crate::specs::RefusalLaws::longest_of))]
-    fn longest_section(&self) -> u64
+    #[tactic(auto, using(crate::specs::RefusalLaws::longest_section_of))]
+    pub fn longest_section(&self) -> u64
         ensures { result ≡ longest_section self.now }
     {
         let sections = self.sections.iter();

@@ -19,7 +19,7 @@ pub enum Refusal {
     ShortBuffer = 9,
     // The set has as many tasks as it can.
     FullTasks = 10,
-    // A rule names a task that is not there.
+    // A rule names a task that is not there, or a call asks about one that is not there.
     NoSuchTask = 11,
     // The set has as many rules as it can.
     FullRules = 12,

@@ -1,7 +1,7 @@
 -- The verdict on lists that adding has taken is correct, and so is what solving hands over. Assumes nothing.
 use Rattle.std.specs.Prelude.{is_some, Result, Ok, Err, Option, Some, None, ◌≡◌, Bool, List, [], ◌∷◌, map, ◌↔◌, ℕ, ◌≤◌, ◌<◌, T, length, get_or, take}
 use Rattle.std.proofs.Math.Path.{refl}
-use Rattle.std.proofs.Common.{sym, ap, subst, ◌∙◌, inl, inr, arith, lt→ltb}
+use Rattle.std.proofs.Common.{sym, ap, subst, ◌∙◌, inl, inr, arith}
 use Rattle.std.proofs.Math.Bool.{true, false}
 use Rattle.std.proofs.Math.Dec.{eqb→eq}
 use Rattle.std.proofs.lemmas.List.{length-map}
@@ -19,8 +19,7 @@ use Rattle.response.specs.Equation.{demand, SaysResponse}
 use Rattle.response.specs.Agreement.{response_says}
 use Rattle.assignment.specs.Orders.{every_rule, no_rule, hp, ValidOrder}
 use Rattle.assignment.specs.Audsley.{assign, feasible, response_at, problem}
-use Rattle.assignment.specs.Decision.{valid_fewer}
-use Rattle.assignment.proofs.Preemptive.{less-feasible, meets_exactly, feasible-order}
+use Rattle.assignment.proofs.Preemptive.{less-feasible, meets_exactly, first_valid, feasible-order}
 use Rattle.assignment.specs.Search.{index, time}
 use Rattle.taskset.specs.declared.refusals.Refusal.{Refusal}
 use Rattle.verdict.specs.declared.Finding.{Finding}
@@ -53,13 +52,6 @@ module _ (l : Lists) (sound : Sound l) where
 
   abbrev test : (ℕ → Bool) → Bool
   test = feasible (problem l)
-
-  -- what keeps the first m rules keeps every rule
-  every : (order : List ℕ) → ValidOrder l (first m) order → ValidOrder l every_rule order
-  every order = valid_fewer (λ k h on. lt→ltb k m h)
-
-  firsts : (order : List ℕ) → ValidOrder l every_rule order → ValidOrder l (first m) order
-  firsts order = valid_fewer (λ k h on. tt)
 
   -- ---- an order
 
@@ -118,8 +110,8 @@ module _ (l : Lists) (sound : Sound l) where
           one = inl refl;
           order_alone = λ e. refl;
           core_alone = λ e. absurd (order_not_core e);
-          refuses = (λ e. absurd (order_not_core e), λ none. absurd (none (order, every order valid)));
-          valid = λ e. subst (ValidOrder l every_rule) (sym order-handed) (every order valid);
+          refuses = (λ e. absurd (order_not_core e), λ none. absurd (none (order, (first_valid l order).0 valid)));
+          valid = λ e. subst (ValidOrder l every_rule) (sym order-handed) ((first_valid l order).0 valid);
           rules = λ e. absurd (order_not_core e);
           clash = λ e. absurd (order_not_core e);
           needed = λ e. absurd (order_not_core e);
@@ -152,7 +144,7 @@ module _ (l : Lists) (sound : Sound l) where
           one = inr refl;
           order_alone = λ e. absurd (order_not_core (sym e));
           core_alone = λ e. (refl, refl);
-          refuses = (λ e o. no ((feasible-order l sound (first m)).1 (o.0, firsts o.0 o.1)), λ e. refl);
+          refuses = (λ e o. no ((feasible-order l sound (first m)).1 (o.0, (first_valid l o.0).1 o.1)), λ e. refl);
           valid = λ e. absurd (order_not_core (sym e));
           rules = λ e. of_core (λ f. (k : ℕ) → T (f k) → k < m) (core_rules test m m);
           clash = λ e o. of_core (λ f. T (test f) → ⊥) (core_infeasible test m antitone no) ((feasible-order l sound (core_given refusal)).1 o);

@@ -25,18 +25,18 @@ returns-then-most-eq0 c =
 
 pub candidate-requires-clause-task_in_bounds : goal.candidate-requires-clause-task_in_bounds
 candidate-requires-clause-task_in_bounds c =
-    roomiest_inside _ c.args.tasks.sound _ _ c.requires.left _ c.requires.blocked _ _ _ (omega arith) c.loop-j.invariant (omega arith)
+    roomiest_inside _ c.args.tasks.sound _ _ c.requires.are_left _ c.requires.blocked _ _ _ (omega arith) c.loop-j.invariant (omega arith)
 
 pub candidate-requires-clause-blocking_value : goal.candidate-requires-clause-blocking_value
 candidate-requires-clause-blocking_value c =
-    roomiest_blocked _ c.args.tasks.sound _ _ c.requires.left _ c.requires.blocked _ _ _ (omega arith) c.loop-j.invariant (omega arith)
+    roomiest_blocked _ c.args.tasks.sound _ _ c.requires.are_left _ c.requires.blocked _ _ _ (omega arith) c.loop-j.invariant (omega arith)
 
 pub window-requires : goal.window-requires
 window-requires c =
-    roomiest_short _ c.args.tasks.sound _ _ c.requires.left _ c.requires.blocked _ _ _ (omega arith) c.loop-j.invariant (omega arith)
+    roomiest_short _ c.args.tasks.sound _ _ c.requires.are_left _ c.requires.blocked _ _ _ (omega arith) c.loop-j.invariant (omega arith)
 
 pub returns : goal.returns
 returns c =
     let is = c.candidate.ensures in
-    level_roomiest _ c.args.tasks.sound _ _ c.requires.left _ c.requires.blocked _ _ _ (omega arith) c.loop-j.invariant (omega arith) _
+    level_roomiest _ c.args.tasks.sound _ _ c.requires.are_left _ c.requires.blocked _ _ _ (omega arith) c.loop-j.invariant (omega arith) _
     (c.window.ensures.value ∙ rw (is.tasks, is.task, is.above) refl)

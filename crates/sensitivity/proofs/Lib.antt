@@ -1,0 +1,4 @@
+pub mod ExecutionLaws
+pub mod HalvingLaws
+pub mod SensitivityLaws
+pub mod Figures

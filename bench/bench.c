@@ -535,7 +535,10 @@ static void make(const struct family *f, struct text *t)
     t->bytes[t->len] = 0;
 }
 
-/* How long each task may run, beside a trial with every rule active, where that finds an order. Where it finds none, gives the dearest place's time. */
+/*
+ * How long each task may run, beside a trial with every rule active, where that
+ * finds an order. Where it finds none, gives the dearest place's time.
+ */
 static double print_longest(const struct family *f)
 {
     static struct text t;

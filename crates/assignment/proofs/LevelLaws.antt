@@ -11,8 +11,6 @@ use Rattle.response.specs.Agreement.{met_by, no_window}
 use Rattle.response.specs.Blocking.{blocking_of}
 use Rattle.response.specs.Resources.{BlocksEach}
 use Rattle.response.proofs.Demand.{response_left}
-use Rattle.assignment.specs.Audsley.{response_at}
-use Rattle.assignment.specs.Search.{candidate}
 use Rattle.assignment.specs.LevelWindow.{room_of, Roomiest, LevelWindow}
 
 -- ---- who has the most room
@@ -78,9 +76,3 @@ module _ (tasks : List Task) (sound : SoundTasks tasks) (these left : ℕ → Bo
         (sym (blocked i h t) ∙ roomiest_blocked)
         (task_at tasks i).deadline most (sound.each i h).deadline.1 (omega (arith, fits, own.deadline)) (is.each i (omega (arith, whole, h)) t)
         ∙ ap (met_by (task_at tasks i).jitter (task_at tasks i).deadline) (sym e)
-
--- a ready task's response is the one that the window gives
-pub candidate_met : (tasks : List Task) (ready left : ℕ → Bool) (window : Option ℕ) → LevelWindow tasks ready left window → (i : ℕ)
-    → i < length tasks → ready i ≡ true
-    → candidate (response_at tasks) ready left i ≡ met_by (task_at tasks i).jitter (task_at tasks i).deadline window
-candidate_met tasks ready left window same i h e = rw e (same i h (true→T (ready i) e))

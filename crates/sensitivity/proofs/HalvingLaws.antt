@@ -1,12 +1,12 @@
 -- Halving. Over any test that passes up to some number: what it ends with is the greatest number that passes. And what each execution
 -- time tells that is tried. Assumes nothing.
-use Rattle.std.specs.Prelude.{Option, Some, None, ◌≡◌, refl, Bool, List, [], ◌++◌, ◌↔◌, ℕ, suc, ◌+◌, ◌-◌, ◌*◌, ◌^◌, ◌≤◌, ◌<◌, T, leb, length, set, take}
-use Rattle.std.proofs.Common.{sym, ap, ap₂, subst, ◌∙◌, ⊎_elim, le_antisymm, arith, le→leb, leb→le, get_or-take}
+use Rattle.std.specs.Prelude.{Some, None, ◌≡◌, Bool, List, [], ◌++◌, ◌↔◌, ℕ, suc, ◌+◌, ◌-◌, ◌*◌, ◌^◌, ◌≤◌, ◌<◌, T, leb, length, set, take}
+use Rattle.std.proofs.Common.{sym, ap, ap₂, subst, ◌∙◌, arith, le→leb, leb→le, get_or-take}
 use Rattle.std.proofs.lemmas.List.{set-set, set-get_or, length-set}
 use Rattle.std.proofs.Math.Nat.{pow-succ'}
 use Rattle.std.proofs.Math.Seq.{take-set-lt, take-append_seam}
-use Rattle.sets.specs.Choice.{and_intro, and_left, and_right, lt_or_le}
-use Rattle.sets.specs.Bounded.{greatest, Greatest, found, nothing, greatest_is}
+use Rattle.sets.specs.Choice.{and_intro, and_left, and_right}
+use Rattle.sets.specs.Bounded.{greatest, found, nothing, greatest_only}
 use Rattle.sets.specs.Marks.{first}
 use Rattle.taskset.specs.declared.Task.{Task}
 use Rattle.taskset.specs.Model.{Lists, no_task, task_at, Sound}
@@ -34,29 +34,19 @@ module _ (floor top : ℕ) (passes : ℕ → Bool) (range : floor ≤ top)
       (shorter (low + 1) c brackets.from (omega arith) (omega arith) (and_right (leb floor c) (passes c) t))
 
   pub brackets_some : floor ≤ low → Some low ≡ greatest (top + 1) answers
-  brackets_some from = go (greatest (top + 1) answers) (greatest_is (top + 1) answers)
-    where
-      here : T (answers low)
-      here = and_intro (leb floor low) (passes low) (le→leb floor low from) (brackets.low_passes from)
-
-      inside : low < top + 1
-      inside = omega (arith, brackets.to)
-
-      go : (r : Option ℕ) → Greatest (top + 1) answers r → Some low ≡ r
-      go r (found k g) =
-          ap Some
-          (le_antisymm (⊎_elim (λ less. absurd (g.last low inside less here)) (λ h. h) (lt_or_le k low))
-          (⊎_elim (λ more. absurd (beyond k more g.below g.passes)) (λ h. h) (lt_or_le low k)))
-      go r (nothing out) = absurd (out low inside here)
+  brackets_some from =
+      greatest_only (top + 1) answers (Some low)
+      (found low
+      (record {
+        below = omega (arith, brackets.to);
+        passes = and_intro (leb floor low) (passes low) (le→leb floor low from) (brackets.low_passes from);
+        last = λ c inside more. beyond c more inside;
+      }))
 
   pub brackets_none : low < floor → None ≡ greatest (top + 1) answers
-  brackets_none under = go (greatest (top + 1) answers) (greatest_is (top + 1) answers)
-    where
-      go : (r : Option ℕ) → Greatest (top + 1) answers r → None ≡ r
-      go r (found k g) =
-          let from = leb→le floor k (and_left (leb floor k) (passes k) g.passes) in
-          absurd (beyond k (omega arith) g.below g.passes)
-      go r (nothing out) = refl
+  brackets_none under =
+      greatest_only (top + 1) answers None
+      (nothing (λ c inside t. let from = leb→le floor c (and_left (leb floor c) (passes c) t) in beyond c (omega arith) inside t))
 
 -- ---- nothing is tried yet
 

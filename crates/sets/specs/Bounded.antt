@@ -3,12 +3,12 @@
 use Rattle.std.specs.Prelude.{Option, None, Some}
 use Rattle.std.specs.Prelude.{◌≡◌, refl, Bool, true, false, ◌&&◌, List, ℕ, zero, suc, ◌+◌, ◌≤◌, ◌<◌, T, eqb, ltb, length, get_or}
 use Rattle.std.specs.List.{list_any}
-use Rattle.std.proofs.Common.{ap, ◌∙◌, ⊎_elim, not-suc-le-zero, le_of_suc-le-suc, eq-or-lt_of_le, le_refl, add-le-add, add-lt-add_of_le_of_lt, eq-zero-or-pos, add-one, arith, eqb→eq, ltb→lt, lt→ltb, add-zero, add-suc}
+use Rattle.std.proofs.Common.{ap, ◌∙◌, ⊎_elim, not-suc-le-zero, le_of_suc-le-suc, eq-or-lt_of_le, le_refl, le_antisymm, add-le-add, add-lt-add_of_le_of_lt, eq-zero-or-pos, add-one, arith, eqb→eq, ltb→lt, lt→ltb, add-zero, add-suc}
 use Rattle.std.proofs.lemmas.List.{get_or_default}
 use Rattle.std.proofs.lemmas.List.Folds.{Any-from_list_any, list_any_at}
 use Rattle.std.proofs.Math.Nat.{le_step, add-lt-add_of_lt_of_le}
 use Rattle.std.proofs.Math.Dec.{eqb_refl}
-use Rattle.sets.specs.Choice.{pick, decided, and_intro, and_left, and_right, same_test, T→true, true→T, refuted→false, false→refuted, and-true, and_swap}
+use Rattle.sets.specs.Choice.{pick, decided, and_intro, and_left, and_right, same_test, T→true, true→T, refuted→false, false→refuted, lt_or_le, and-true, and_swap}
 
 -- every number
 abbrev pub every : ℕ → Bool
@@ -102,6 +102,19 @@ greatest_is (suc n) p = go (p n) refl (greatest_is n p)
     go : (b : Bool) → p n ≡ b → Greatest n p (greatest n p) → Greatest (suc n) p (pick b (Some n) (greatest n p))
     go true e g = found n (record { below = le_refl (suc n); passes = true→T (p n) e; last = λ j h l. absurd (omega arith) })
     go false e g = greater n p (greatest n p) (false→refuted (p n) e) g
+
+-- and nothing else is
+pub greatest_only : (n : ℕ) (p : ℕ → Bool) (r : Option ℕ) → Greatest n p r → r ≡ greatest n p
+greatest_only n p r is = go r is (greatest n p) (greatest_is n p)
+  where
+    no_more : (k j : ℕ) → IsGreatest n p k → IsGreatest n p j → k ≤ j
+    no_more k j g h = ⊎_elim (λ more. absurd (h.last k g.below more g.passes)) (λ le. le) (lt_or_le j k)
+
+    go : (a : Option ℕ) → Greatest n p a → (b : Option ℕ) → Greatest n p b → a ≡ b
+    go a (found k g) b (found j h) = ap Some (le_antisymm (no_more k j g h) (no_more j k h g))
+    go a (found k g) b (nothing out) = absurd (out k g.below g.passes)
+    go a (nothing out) b (found j h) = absurd (out j h.below h.passes)
+    go a (nothing out) b (nothing none) = refl
 
 -- a loop that counts down: one that passes, and one that doesn't
 pub greatest_at : (i : ℕ) (p : ℕ → Bool) → p i ≡ true → greatest (suc i) p ≡ Some i

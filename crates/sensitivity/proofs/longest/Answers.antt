@@ -15,7 +15,7 @@ loop-preserved c =
           rw w.halving-is
           (record {
             halves = w.try_middle.ensures.halves;
-            narrow = halved rounds at.counter _ _ c.loop-test.true at.invariant.narrow w.try_middle.ensures.narrower;
+            narrow = halved rounds at.counter _ _ (omega (arith, c.loop-test.true)) at.invariant.narrow w.try_middle.ensures.narrower;
           })
       | else-halving w ↦
           let some = one-le-pow (rounds - (at.counter + 1)) 2 (omega arith) in
@@ -25,13 +25,13 @@ loop-preserved c =
 pub returns-then-halving-least_execution : goal.returns-then-halving-least_execution
 returns-then-halving-least_execution c =
     let at = c.loop in
-    let end = halved_end rounds at.counter _ c.loop-test.false at.invariant.narrow in
+    let end = halved_end rounds at.counter _ (omega (arith, c.loop-test.false)) at.invariant.narrow in
     halved_none (lists_of c.args.system) c.args.system.sound _ c.requires at.halving at.invariant.halves (omega (arith, end))
     (omega (arith, c.least_execution.ensures, c.if-halving-least_execution.true))
 
 pub returns : goal.returns
 returns c =
     let at = c.loop in
-    let end = halved_end rounds at.counter _ c.loop-test.false at.invariant.narrow in
+    let end = halved_end rounds at.counter _ (omega (arith, c.loop-test.false)) at.invariant.narrow in
     halved_some (lists_of c.args.system) c.args.system.sound _ c.requires at.halving at.invariant.halves (omega (arith, end))
     (omega (arith, c.least_execution.ensures, c.if-halving-least_execution.false))

@@ -41,7 +41,7 @@ is_blank_task t =
     eqb t.period 0 && eqb t.execution 0 && eqb t.deadline 0 && eqb t.jitter 0 && pointwise nat_eq t.sections (replicate resources 0)
 
 abbrev pub is_blank_rule : Rule → Bool
-is_blank_rule r = eqb r.higher.0 0 && eqb r.lower.0 0
+is_blank_rule r = eqb r.higher.0 0 && eqb r.lower.0 0 && eqb r.weight 0
 
 -- a used entry is one that adding takes, an unused one is all zeros; in a set of n tasks and m rules
 unfoldable pub task_fits : ℕ → ℕ → Bool → Task → Bool

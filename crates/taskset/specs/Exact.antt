@@ -7,7 +7,7 @@ use Rattle.taskset.specs.declared.Rule.{Rule}
 use Rattle.taskset.specs.declared.TaskSet.{TaskSet}
 use Rattle.taskset.specs.declared.Call.{Call}
 use Rattle.taskset.specs.declared.Call.TheVariants.{AddTask, AddRule}
-use Rattle.taskset.specs.Refusals.{max_tasks, max_rules, InRanges, Between, Acceptable, Room}
+use Rattle.taskset.specs.Refusals.{max_tasks, max_rules, InRanges, Between, Weighed, Acceptable, Room}
 use Rattle.taskset.specs.Model.{Lists, no_lists, extended, hear, heard, task_at, rule_at, Sound}
 use Rattle.taskset.specs.Adding.{holding, lists, fresh_set, is_made, add, run, Made}
 use Rattle.taskset.specs.RefusalLaws.{taken_exactly}
@@ -47,7 +47,7 @@ hear_tasks (t ∷ ts) l cs h each =
     ∙ rw (append_snoc l.tasks t ts)
 
 hear_rules : (rs : List Rule) (l : Lists) → length l.rules + length rs ≤ max_rules
-    → ((k : ℕ) → k < length rs → Between (length l.tasks) (rule_at rs k))
+    → ((k : ℕ) → k < length rs → Between (length l.tasks) (rule_at rs k) × Weighed (rule_at rs k))
     → heard l (map AddRule rs) ≡ record { tasks = l.tasks; rules = l.rules ++ rs }
 unfolding heard
 hear_rules [] l h each = rw (append-nil l.rules)
@@ -63,7 +63,7 @@ calls_of l = map AddTask l.tasks ++ map AddRule l.rules
 pub heard_all : (l : Lists) → Sound l → heard no_lists (calls_of l) ≡ l
 heard_all l s =
     hear_tasks l.tasks no_lists (map AddRule l.rules) (omega (arith, s.tasks.few)) s.tasks.each
-    ∙ hear_rules l.rules (record { tasks = l.tasks; rules = [] }) (omega (arith, s.few_rules)) s.indices
+    ∙ hear_rules l.rules (record { tasks = l.tasks; rules = [] }) (omega (arith, s.few_rules)) (λ k h. (s.indices k h, s.weights k h))
 
 -- ---- so what passes is made by calls
 

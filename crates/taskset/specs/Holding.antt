@@ -11,7 +11,7 @@ use Rattle.sets.specs.Pad.{pad, take-pad, pad_used, pad_unused}
 use Rattle.taskset.specs.declared.refusals.Refusal.{Refusal}
 use Rattle.taskset.specs.declared.Call.{Call}
 use Rattle.taskset.specs.declared.Call.TheVariants.{AddTask, AddRule}
-use Rattle.taskset.specs.Refusals.{max_tasks, max_rules, InRanges, Between, Acceptable, Room}
+use Rattle.taskset.specs.Refusals.{max_tasks, max_rules, InRanges, Between, Weighed, Acceptable, Room}
 use Rattle.taskset.specs.Model.{Lists, no_lists, refusal_of, extended, hear, heard, blank_task, blank_rule, no_task, Sound}
 use Rattle.taskset.specs.Adding.{holding, lists, task_fits, rule_fits, entry, is_made, answering, add, run}
 use Rattle.taskset.specs.RefusalLaws.{taken_exactly, fits_exactly}
@@ -27,6 +27,7 @@ none_sound =
       tasks = record { few = omega arith; each = λ i h. absurd (omega arith) };
       few_rules = omega arith;
       indices = λ i h. absurd (omega arith);
+      weights = λ i h. absurd (omega arith);
     }
 
 -- what holds of each entry and of one more holds of each of the longer list
@@ -46,13 +47,15 @@ extended_sound l s (AddTask t) ok room =
       tasks = record { few = omega arith; each = each_more InRanges no_task l.tasks t s.tasks.each ok };
       few_rules = s.few_rules;
       indices = λ k h. let b = s.indices k h in record { apart = b.apart; higher = omega arith; lower = omega arith };
+      weights = s.weights;
     }
 extended_sound l s (AddRule r) ok room =
     let longer = length-append l.rules (r ∷ []) in
     record {
       tasks = s.tasks;
       few_rules = omega arith;
-      indices = each_more (Between (length l.tasks)) blank_rule l.rules r s.indices ok;
+      indices = each_more (Between (length l.tasks)) blank_rule l.rules r s.indices ok.0;
+      weights = each_more Weighed blank_rule l.rules r s.weights ok.1;
     }
 
 -- a taken call
@@ -96,7 +99,7 @@ sound_made l s =
       le-leb m max_rules s.few_rules,
       entries (task_fits n m) max_tasks blank_task l.tasks tt
           (λ i h. rw (get_or_default l.tasks i blank_task no_task h) ((fits_exactly n m (AddTask _)).1 (s.tasks.each i h))),
-      entries (rule_fits n m) max_rules blank_rule l.rules tt (λ k h. (fits_exactly n m (AddRule _)).1 (s.indices k h)),
+      entries (rule_fits n m) max_rules blank_rule l.rules tt (λ k h. (fits_exactly n m (AddRule _)).1 (s.indices k h, s.weights k h)),
     )
 
 -- ---- a call on a set that holds such lists makes one that holds what the reference model hears

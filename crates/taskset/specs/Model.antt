@@ -7,7 +7,7 @@ use Rattle.taskset.specs.declared.Task.{Task}
 use Rattle.taskset.specs.declared.Rule.{Rule}
 use Rattle.taskset.specs.declared.Call.{Call}
 use Rattle.taskset.specs.declared.Call.TheVariants.{AddTask, AddRule}
-use Rattle.taskset.specs.Refusals.{max_tasks, max_rules, resources, InRanges, Between, refusal_by}
+use Rattle.taskset.specs.Refusals.{max_tasks, max_rules, resources, InRanges, Between, Weighed, refusal_by}
 
 pub record Lists : Type 0 where
   pub tasks : List Task
@@ -40,7 +40,7 @@ abbrev pub blank_task : Task
 blank_task = record { period = 0; execution = 0; deadline = 0; jitter = 0; sections = replicate resources 0 }
 
 abbrev pub blank_rule : Rule
-blank_rule = record { higher = record { 0 = 0 }; lower = record { 0 = 0 } }
+blank_rule = record { higher = record { 0 = 0 }; lower = record { 0 = 0 }; weight = 0 }
 
 -- past its end a list of tasks has one without even a section
 abbrev pub no_task : Task
@@ -57,8 +57,9 @@ pub record SoundTasks (tasks : List Task) : Type 0 where
   pub few : length tasks ≤ max_tasks
   pub each : (i : ℕ) → i < length tasks → InRanges (task_at tasks i)
 
--- and few enough rules, each between two of the tasks
+-- and few enough rules, each between two of the tasks, with their weights
 pub record Sound (l : Lists) : Type 0 where
   pub tasks : SoundTasks l.tasks
   pub few_rules : length l.rules ≤ max_rules
   pub indices : (k : ℕ) → k < length l.rules → Between (length l.tasks) (rule_at l.rules k)
+  pub weights : (k : ℕ) → k < length l.rules → Weighed (rule_at l.rules k)

@@ -1,7 +1,7 @@
 -- Document 01's numbers of the refusals. Assumes nothing.
 use Rattle.std.specs.Prelude.{ℕ}
 use Rattle.taskset.specs.declared.refusals.Refusal.{Refusal}
-use Rattle.taskset.specs.declared.refusals.Refusal.TheVariants.{Period, Execution, Deadline, Jitter, Section, SameTask, BadLine, LongText, ShortBuffer, FullTasks, NoSuchTask, FullRules, NoTasks, NotMade}
+use Rattle.taskset.specs.declared.refusals.Refusal.TheVariants.{Period, Execution, Deadline, Jitter, Section, SameTask, BadLine, LongText, ShortBuffer, FullTasks, NoSuchTask, FullRules, NoTasks, NotMade, Weight}
 
 abbrev pub number : Refusal → ℕ
 number Period = 1
@@ -18,3 +18,4 @@ number NoSuchTask = 11
 number FullRules = 12
 number NoTasks = 13
 number NotMade = 14
+number Weight = 15

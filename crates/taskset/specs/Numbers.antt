@@ -1,4 +1,4 @@
--- Rows and rules as the numbers of their text lines: C, T, D, J and the sections' lengths; u, l. Assumes nothing.
+-- Rows and rules as the numbers of their text lines: C, T, D, J and the sections' lengths; u, l and the weight. Assumes nothing.
 use Rattle.std.specs.Prelude.{List, [], ◌∷◌, ℕ, ◌+◌, get_or}
 use Rattle.sets.specs.Marks.{table}
 use Rattle.taskset.specs.declared.Task.{Task}
@@ -13,7 +13,7 @@ abbrev pub task_size : ℕ
 task_size = times + resources
 
 abbrev pub rule_size : ℕ
-rule_size = 2
+rule_size = 3
 
 abbrev pub task_of : List ℕ → Task
 task_of ns =
@@ -26,11 +26,11 @@ task_of ns =
     }
 
 abbrev pub rule_of : List ℕ → Rule
-rule_of ns = record { higher = record { 0 = get_or ns 0 0 }; lower = record { 0 = get_or ns 1 0 } }
+rule_of ns = record { higher = record { 0 = get_or ns 0 0 }; lower = record { 0 = get_or ns 1 0 }; weight = get_or ns 2 0 }
 
 -- and back again
 abbrev pub task_numbers : Task → List ℕ
 task_numbers t = t.execution ∷ t.period ∷ t.deadline ∷ t.jitter ∷ t.sections
 
 abbrev pub rule_numbers : Rule → List ℕ
-rule_numbers r = r.higher.0 ∷ r.lower.0 ∷ []
+rule_numbers r = r.higher.0 ∷ r.lower.0 ∷ r.weight ∷ []

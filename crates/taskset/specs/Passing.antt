@@ -10,7 +10,7 @@ use Rattle.taskset.specs.declared.Task.{Task}
 use Rattle.taskset.specs.declared.Rule.{Rule}
 use Rattle.taskset.specs.declared.TaskSet.{TaskSet}
 use Rattle.taskset.specs.declared.Call.TheVariants.{AddTask, AddRule}
-use Rattle.taskset.specs.Refusals.{max_tasks, max_rules, resources, InRanges, Between}
+use Rattle.taskset.specs.Refusals.{max_tasks, max_rules, resources, InRanges, Between, Weighed}
 use Rattle.taskset.specs.Model.{blank_task, blank_rule, no_task, Sound}
 use Rattle.taskset.specs.Adding.{holding, lists, task_fits, rule_fits, entry, is_made}
 use Rattle.taskset.specs.RefusalLaws.{fits_exactly}
@@ -33,14 +33,14 @@ blank_task_lem n m t h =
 blank_rule_lem : (n m : ℕ) (r : Rule) → T (rule_fits n m false r) → r ≡ blank_rule
 unfolding rule_fits
 blank_rule_lem n m r h =
-    let (u, l) : (r.higher.0 ≡ 0) × (r.lower.0 ≡ 0) = search (and_left, and_right, eqb→eq) in
-    λ i. record { higher = record { 0 = u i }; lower = record { 0 = l i } }
+    let (u, l, w) : (r.higher.0 ≡ 0) × (r.lower.0 ≡ 0) × (r.weight ≡ 0) = search (and_left, and_right, eqb→eq) in
+    λ i. record { higher = record { 0 = u i }; lower = record { 0 = l i }; weight = w i }
 
 used_task : (n m : ℕ) (t : Task) → T (task_fits n m true t) → InRanges t
 unfolding task_fits
 used_task n m t = (fits_exactly n m (AddTask t)).0
 
-used_rule : (n m : ℕ) (r : Rule) → T (rule_fits n m true r) → Between n r
+used_rule : (n m : ℕ) (r : Rule) → T (rule_fits n m true r) → Between n r × Weighed r
 unfolding rule_fits
 used_rule n m r = (fits_exactly n m (AddRule r)).0
 
@@ -108,7 +108,8 @@ passed s size e =
           record {
             tasks = record { few = omega (arith, ts.long, few-tasks); each = λ i h. rw (get_or_default (take n s.tasks) i no_task blank_task h) (used_task n m _ (ts.fit i h)) };
             few_rules = omega (arith, rs.long, few_rules);
-            indices = λ k h. rw ts.long (used_rule n m _ (rs.fit k h));
+            indices = λ k h. rw ts.long (used_rule n m _ (rs.fit k h)).0;
+            weights = λ k h. (used_rule n m _ (rs.fit k h)).1;
           };
       ntasks = ts.long;
       nrules = rs.long;

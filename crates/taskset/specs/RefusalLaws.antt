@@ -1,27 +1,27 @@
 -- Laws of the refusals: a call is taken exactly when its entry is acceptable and its list has room, and the check of 14 counts
 -- the entry alone. Assumes nothing.
-use Rattle.std.specs.Prelude.{◌≡◌, refl, Bool, true, false, ◌↔◌, List, [], ◌∷◌, ◌++◌, ℕ, ◌-◌, ◌≤◌, ◌<◌, T, max, ltb, leb, eqb, length, fold, Result, Ok, Err, is_ok}
+use Rattle.std.specs.Prelude.{◌≡◌, refl, Bool, true, false, ◌&&◌, ◌↔◌, List, [], ◌∷◌, ◌++◌, ℕ, ◌-◌, ◌≤◌, ◌<◌, T, max, ltb, leb, eqb, length, fold, Result, Ok, Err, is_ok}
 use Rattle.std.specs.Result.{result_and}
-use Rattle.std.proofs.Common.{le_trans, arith, eqb→eq}
+use Rattle.std.proofs.Common.{ap, ◌∙◌, le_trans, arith, eqb→eq}
 use mathlib.Core.Logic.Iff
 use borrow.Author.Tests.{ltb-false, leb-false, eqb-false, le-ltb, lt-leb, ne_eqb}
-use Rattle.sets.specs.Choice.{pick, or_false_left, or_false_right}
+use Rattle.sets.specs.Choice.{pick, or_false_left, or_false_right, and_intro, and_left, and_right}
 use Rattle.sets.specs.Bounded.{every, all_at}
 use Rattle.sets.specs.Maximum.{maximum_at, maximum-le}
 use Rattle.sets.specs.Items.{maximum-items}
 use Rattle.taskset.specs.declared.refusals.Refusal.{Refusal}
-use Rattle.taskset.specs.declared.refusals.Refusal.TheVariants.{Period, Execution, Deadline, Jitter, Section, SameTask, BadLine, LongText, ShortBuffer, FullTasks, NoSuchTask, FullRules, NoTasks, NotMade}
+use Rattle.taskset.specs.declared.refusals.Refusal.TheVariants.{Period, Execution, Deadline, Jitter, Section, SameTask, BadLine, LongText, ShortBuffer, FullTasks, NoSuchTask, FullRules, NoTasks, NotMade, Weight}
 use Rattle.taskset.specs.declared.Task.{Task}
 use Rattle.taskset.specs.declared.Rule.{Rule}
 use Rattle.taskset.specs.declared.Call.{Call}
 use Rattle.taskset.specs.declared.Call.TheVariants.{AddTask, AddRule}
 use Rattle.taskset.specs.Numbering.{number}
-use Rattle.taskset.specs.Refusals.{max_tasks, max_rules, max_period, InRanges, Between, Acceptable, Room}
+use Rattle.taskset.specs.Refusals.{max_tasks, max_rules, max_period, max_weight, InRanges, Between, Weighed, Acceptable, Room}
 use Rattle.taskset.specs.Refusals.{resources, section_on, longest_section, uses_none}
-use Rattle.taskset.specs.Refusals.{Condition, full_by, first_of, outside, row_refusals, index_refusals, refusal_by, entry_fits}
+use Rattle.taskset.specs.Refusals.{Condition, full_by, first_of, outside, row_refusals, index_refusals, weight_refusals, refusal_by, entry_fits}
 
 -- a refusal's number is a small one
-pub number_small : (r : Refusal) → number r ≤ 14
+pub number_small : (r : Refusal) → number r ≤ 15
 number_small Period = omega arith
 number_small Execution = omega arith
 number_small Deadline = omega arith
@@ -36,6 +36,7 @@ number_small NoSuchTask = omega arith
 number_small FullRules = omega arith
 number_small NoTasks = omega arith
 number_small NotMade = omega arith
+number_small Weight = omega arith
 
 -- a test says that a call is taken
 pub ok_exactly : (r : Result (Unit {0}) Refusal) → T (is_ok r) ↔ (r ≡ Ok tt)
@@ -120,6 +121,13 @@ index_exactly n r = (
   λ b. rw (ne_eqb _ _ b.apart, lt-leb n _ b.higher, lt-leb n _ b.lower),
 )
 
+weight_exactly : (r : Rule) → (first_of (weight_refusals r) ≡ Ok tt) ↔ Weighed r
+unfolding weight_refusals
+weight_exactly r = (
+  λ e. let w = (inside 1 max_weight r.weight).0 (none_applies (weight_refusals r) e).0 in record { least = w.0; most = w.1 },
+  λ w. rw ((inside 1 max_weight r.weight).1 (w.least, w.most)),
+)
+
 -- ---- one list of refusals after another
 
 first-append : (rs qs : List Condition) → first_of (rs ++ qs) ≡ result_and (first_of rs) (first_of qs)
@@ -158,9 +166,10 @@ unfolding refusal_by
 task_by n m t = first-append (row_refusals t) (full_if FullTasks max_tasks n)
 
 pub rule_by : (n m : ℕ) (r : Rule)
-    → refusal_by n m (AddRule r) ≡ result_and (first_of (index_refusals n r)) (pick (leb max_rules m) (Err FullRules) (Ok tt))
+    → refusal_by n m (AddRule r)
+    ≡ result_and (first_of (index_refusals n r)) (pick (leb max_rules m) (Err FullRules) (first_of (weight_refusals r)))
 unfolding refusal_by
-rule_by n m r = first-append (index_refusals n r) (full_if FullRules max_rules m)
+rule_by n m r = first-append (index_refusals n r) (full_by FullRules (leb max_rules m) ∷ weight_refusals r)
 
 -- it is taken exactly when its entry is acceptable and its list has room
 pub taken_exactly : (n m : ℕ) (c : Call) → (refusal_by n m c ≡ Ok tt) ↔ (Acceptable n c × Room n m c)
@@ -168,18 +177,36 @@ unfolding refusal_by
 taken_exactly n m (AddTask t) =
     Iff.trans (append_exactly (row_refusals t) (full_if FullTasks max_tasks n)) (Iff.and (row_exactly t) (full_exactly FullTasks max_tasks n))
 taken_exactly n m (AddRule r) =
-    Iff.trans (append_exactly (index_refusals n r) (full_if FullRules max_rules m))
-    (Iff.and (index_exactly n r) (full_exactly FullRules max_rules m))
+    let full = full_if FullRules max_rules m in
+    let parts =
+    Iff.trans (append_exactly (index_refusals n r) (full ++ weight_refusals r))
+    (Iff.and (index_exactly n r)
+    (Iff.trans (append_exactly full (weight_refusals r)) (Iff.and (full_exactly FullRules max_rules m) (weight_exactly r)))) in (
+      λ e. let p = parts.0 e in ((p.0, p.1.1), p.1.0),
+      λ a. parts.1 (a.0.0, (a.1, a.0.1)),
+    )
 
 -- the check of 14 counts the entry alone
 pub task_counted : (n m : ℕ) (t : Task) → entry_fits n m (AddTask t) ≡ is_ok (first_of (row_refusals t))
 unfolding entry_fits row_refusals
 task_counted n m t = refl
 
-pub rule_counted : (n m : ℕ) (r : Rule) → entry_fits n m (AddRule r) ≡ is_ok (first_of (index_refusals n r))
-unfolding entry_fits index_refusals
-rule_counted n m r = refl
+is_ok-both : (r q : Result (Unit {0}) Refusal) → is_ok (result_and r q) ≡ (is_ok r && is_ok q)
+is_ok-both (Ok u) q = refl
+is_ok-both (Err r) q = refl
+
+pub rule_counted : (n m : ℕ) (r : Rule)
+    → entry_fits n m (AddRule r) ≡ (is_ok (first_of (index_refusals n r)) && is_ok (first_of (weight_refusals r)))
+unfolding entry_fits index_refusals weight_refusals
+rule_counted n m r =
+    ap is_ok (first-append (index_refusals n r) (weight_refusals r)) ∙ is_ok-both (first_of (index_refusals n r)) (first_of (weight_refusals r))
 
 pub fits_exactly : (n m : ℕ) (c : Call) → T (entry_fits n m c) ↔ Acceptable n c
 fits_exactly n m (AddTask t) = rw (task_counted n m t) (Iff.trans (ok_exactly (first_of (row_refusals t))) (row_exactly t))
-fits_exactly n m (AddRule r) = rw (rule_counted n m r) (Iff.trans (ok_exactly (first_of (index_refusals n r))) (index_exactly n r))
+fits_exactly n m (AddRule r) =
+    let index = Iff.trans (ok_exactly (first_of (index_refusals n r))) (index_exactly n r) in
+    let weight = Iff.trans (ok_exactly (first_of (weight_refusals r))) (weight_exactly r) in
+    rw (rule_counted n m r) (
+      λ t. (index.0 (and_left _ _ t), weight.0 (and_right _ _ t)),
+      λ a. and_intro _ _ (index.1 a.0) (weight.1 a.1),
+    )

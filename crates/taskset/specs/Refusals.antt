@@ -1,17 +1,17 @@
--- Document 01, "The sheet" and "Refusals": sizes, the ranges of a row with the sections of document 02, (c),
+-- Document 01, "The sheet" and "Refusals": sizes, the ranges of a row with the sections of document 02, (c), a rule's weight of (f),
 -- and which refusals an adding call meets. Assumes nothing.
 use Rattle.std.specs.Prelude.{◌≡◌, Bool, true, false, ◌||◌, List, [], ◌∷◌, ◌++◌, ℕ, ◌-◌, ◌≤◌, ◌<◌, leb, ltb, eqb, get_or, Result, Ok, Err, is_ok}
 use Rattle.sets.specs.Choice.{pick}
 use Rattle.sets.specs.Bounded.{every, all}
 use Rattle.sets.specs.Maximum.{maximum}
 use Rattle.taskset.specs.declared.refusals.Refusal.{Refusal}
-use Rattle.taskset.specs.declared.refusals.Refusal.TheVariants.{Period, Execution, Deadline, Jitter, Section, SameTask, FullTasks, NoSuchTask, FullRules}
+use Rattle.taskset.specs.declared.refusals.Refusal.TheVariants.{Period, Execution, Deadline, Jitter, Section, SameTask, FullTasks, NoSuchTask, FullRules, Weight}
 use Rattle.taskset.specs.declared.Task.{Task}
 use Rattle.taskset.specs.declared.Rule.{Rule}
 use Rattle.taskset.specs.declared.Call.{Call}
 use Rattle.taskset.specs.declared.Call.TheVariants.{AddTask, AddRule}
 
--- the most tasks and rules of a set, and the longest period in microseconds
+-- the most tasks and rules of a set, the longest period in microseconds, and the greatest weight of a rule
 abbrev pub max_tasks : ℕ
 max_tasks = 64
 
@@ -20,6 +20,9 @@ max_rules = 128
 
 abbrev pub max_period : ℕ
 max_period = 1_000_000
+
+abbrev pub max_weight : ℕ
+max_weight = 1_000
 
 -- ---- document 02, (c): critical sections
 
@@ -86,10 +89,14 @@ index_refusals n r =
     ∷ entry_by NoSuchTask (leb n r.higher.0 || leb n r.lower.0)
     ∷ []
 
+-- and its weight
+unfoldable pub weight_refusals : Rule → List Condition
+weight_refusals r = entry_by Weight (outside 1 max_weight r.weight) ∷ []
+
 -- what an adding call to n tasks and m rules meets, in the paper's order
 abbrev pub refusals : ℕ → ℕ → Call → List Condition
 refusals n m (AddTask t) = row_refusals t ++ full_by FullTasks (leb max_tasks n) ∷ []
-refusals n m (AddRule r) = index_refusals n r ++ full_by FullRules (leb max_rules m) ∷ []
+refusals n m (AddRule r) = index_refusals n r ++ full_by FullRules (leb max_rules m) ∷ weight_refusals r
 
 -- refused or taken
 unfoldable pub refusal_by : ℕ → ℕ → Call → Result (Unit {0}) Refusal
@@ -99,7 +106,7 @@ refusal_by n m c = first_of (refusals n m c)
 unfoldable pub entry_fits : ℕ → ℕ → Call → Bool
 entry_fits n m c = is_ok (first_of (counted_of (refusals n m c)))
 
--- ---- the same as facts: a row within its ranges, a rule between two tasks of n
+-- ---- the same as facts: a row within its ranges, a rule between two tasks of n, and its weight
 
 pub record InRanges (t : Task) : Type 0 where
   pub period : (1 ≤ t.period) × (t.period ≤ max_period)
@@ -113,10 +120,14 @@ pub record Between (n : ℕ) (r : Rule) : Type 0 where
   pub higher : r.higher.0 < n
   pub lower : r.lower.0 < n
 
+pub record Weighed (r : Rule) : Type 0 where
+  pub least : 1 ≤ r.weight
+  pub most : r.weight ≤ max_weight
+
 -- what a call may ask of n tasks, and that its list has room
 abbrev pub Acceptable : ℕ → Call → Type 0
 Acceptable n (AddTask t) = InRanges t
-Acceptable n (AddRule r) = Between n r
+Acceptable n (AddRule r) = Between n r × Weighed r
 
 abbrev pub Room : ℕ → ℕ → Call → Type 0
 Room n m (AddTask t) = n < max_tasks

@@ -39,4 +39,5 @@ changed_sound l sound i here row ok =
           };
       few_rules = sound.few_rules;
       indices = rw size sound.indices;
+      weights = sound.weights;
     }

@@ -8,7 +8,7 @@ mod system;
 ghost use Rattle.std.specs.Prelude.{◌≡◌, ◌≤◌, ◌<◌, true, ◌↔◌, is_some, IfSome};
 ghost use Rattle.taskset.specs.declared.Call.TheVariants.{AddTask, AddRule};
 ghost use Rattle.taskset.specs.Refusals.{max_tasks, max_rules, resources, section_on, longest_section, uses_none};
-ghost use Rattle.taskset.specs.Refusals.{first_of, row_refusals, index_refusals, refusal_by};
+ghost use Rattle.taskset.specs.Refusals.{first_of, row_refusals, index_refusals, weight_refusals, refusal_by};
 ghost use Rattle.taskset.specs.Model.{refusal_of, Sound};
 ghost use Rattle.taskset.specs.Numbers.{task_of, rule_of};
 ghost use Rattle.taskset.specs.Views.{lists_of};
@@ -23,12 +23,14 @@ pub const MAX_RULES: usize = 128;
 
 pub const MAX_PERIOD: u64 = 1_000_000;
 
+pub const MAX_WEIGHT: u64 = 1_000;
+
 pub const RESOURCES: usize = 8;
 
 // How many numbers the text line of a task has, and that of a rule.
 pub const TASK_NUMBERS: usize = 4 + RESOURCES;
 
-pub const RULE_NUMBERS: usize = 2;
+pub const RULE_NUMBERS: usize = 3;
 
 // A task's place in its set, counted from 0 in the order of adding.
 #[derive(Clone, Copy, Debug, Default, PartialEq, Eq)]
@@ -48,11 +50,12 @@ pub struct Task {
     pub sections: [u64; RESOURCES],
 }
 
-// The task `higher` has a higher priority than the task `lower`.
+// The task `higher` has a higher priority than the task `lower`. The weight is what it costs to give the rule up.
 #[derive(Clone, Copy, Default, PartialEq, Eq)]
 pub struct Rule {
     pub higher: TaskIndex,
     pub lower: TaskIndex,
+    pub weight: u64,
 }
 
 // Document 01's sheet: the first ntasks tasks and the first nrules rules are used, the others are all zeros.
@@ -97,12 +100,13 @@ impl From<[u64; TASK_NUMBERS]> for Task {
 impl From<[u64; RULE_NUMBERS]> for Rule {
     ghost from_gives = { λ numbers rule. rule ≡ rule_of numbers };
 
-    // In the order of a line: u, l.
+    // In the order of a line: u, l and the weight.
     fn from(numbers: [u64; RULE_NUMBERS]) -> Rule {
-        let [higher, lower] = numbers;
+        let [higher, lower, weight] = numbers;
         Rule {
             higher: TaskIndex(higher as usize),
             lower: TaskIndex(lower as usize),
+            weight,
         }
     }
 }
@@ -187,9 +191,20 @@ impl Rule {
         }
         Ok(())
     }
+
+    // Refusal 15.
+    #[tactic(auto, unfolding(crate::specs::Refusals::weight_refusals))]
+    fn check_weight(&self) -> Result<(), Refusal>
+        ensures { result ≡ first_of (weight_refusals self.now) }
+    {
+        if !(1..=MAX_WEIGHT).contains(&self.weight) {
+            return Err(Refusal::Weight);
+        }
+        Ok(())
+    }
 }
 
-// A call to a set of n tasks and m rules: refusals 1 to 5, then 10; or 6, 11, then 12.
+// A call to a set of n tasks and m rules: refusals 1 to 5, then 10; or 6, 11, 12, then 15.
 #[tactic(auto, using(crate::specs::RefusalLaws::task_by, crate::specs::RefusalLaws::rule_by))]
 pub fn check(n: usize, m: usize, call: &Call) -> Result<(), Refusal>
     ensures { result ≡ refusal_by n m call.now }
@@ -206,6 +221,7 @@ pub fn check(n: usize, m: usize, call: &Call) -> Result<(), Refusal>
             if MAX_RULES <= m {
                 return Err(Refusal::FullRules);
             }
+            rule.check_weight()?;
         }
     }
     Ok(())
@@ -235,7 +251,8 @@ impl TaskSet {
             && m <= MAX_RULES
             && self.tasks[..n].iter().all(|task| task.check().is_ok())
             && self.tasks[n..].iter().all(Task::is_blank)
-            && self.rules[..m].iter().all(|rule| rule.check(n).is_ok())
+            && self.rules[..m].iter().all(|rule| rule.check(n).is_ok()
+                && rule.check_weight().is_ok())
             && self.rules[m..].iter().all(Rule::is_blank)
     }
 
@@ -319,7 +336,7 @@ impl TaskSet {
         self.add(Call::AddTask(task))
     }
 
-    // Refusals 14, 6, 11, 12.
+    // Refusals 14, 6, 11, 12, 15.
     pub fn add_rule(self, rule: Rule) -> Added
         ensures { result ≡ add self (AddRule rule) }
     {

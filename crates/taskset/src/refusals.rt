@@ -26,6 +26,8 @@ pub enum Refusal {
     // A set without tasks, and one that no list of calls makes.
     NoTasks = 13,
     NotMade = 14,
+    // A rule's weight is out of its range.
+    Weight = 15,
 }
 
 impl From<Refusal> for u64 {

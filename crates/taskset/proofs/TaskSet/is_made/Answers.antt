@@ -3,10 +3,10 @@ use Rattle.std.proofs.Common.{◌≡◌, ◌&&◌, ◌-◌, leb, rules, tests, t
 use Rattle.std.proofs.lemmas.Bool.Decides.{nat_tests}
 use Rattle.std.proofs.lemmas.Iterator.{YieldsList-from_slice}
 use Rattle.std.proofs.lemmas.Iterator.Search.{all_from_yields_List}
-use Rattle.taskset.specs.Refusals.{max_tasks, max_rules, first_of, row_refusals, index_refusals}
+use Rattle.taskset.specs.Refusals.{max_tasks, max_rules, first_of, row_refusals}
 use Rattle.taskset.specs.Adding.{is_blank_task, is_blank_rule}
 use Rattle.taskset.specs.Exact.{passes_exact}
-use Rattle.taskset.proofs.Entries.{tasks_fit, tasks_blank, rules_fit, rules_blank, made_is}
+use Rattle.taskset.proofs.Entries.{tasks_fit, tasks_blank, rule_taken, rules_fit, rules_blank, made_is}
 use Rattle.taskset.proofs.TaskSet.is_made.Goals as goal
 use Rattle.taskset.proofs.TaskSet.is_made.Goals.{Joined-all-2, then-m-le-MAX_RULES, else-m-le-MAX_RULES, then-all, else-all, then-all-2, else-all-2}
 
@@ -36,7 +36,7 @@ first_three c =
     elim c.if-all-2.branch [
       | then-all-2 w ↦
           let e : w.all-then-all-2.result ≡ rules_fit s =
-          all_from_yields_List (λ r. is_ok (first_of (index_refusals s.ntasks r))) _ _ _ w.all-then-all-2.ensures.ran
+          all_from_yields_List (rule_taken s.ntasks) _ _ _ w.all-then-all-2.ensures.ran
           (YieldsList-from_slice (take s.nrules s.rules) (search rules)) (λ x b q k. search (rules, tests)) in
           grind (arith, nat_tests)
       | else-all-2 w ↦ grind (arith, nat_tests)

@@ -11,7 +11,7 @@ use Rattle.lines.specs.Decimal.{are_digits, value_after, is_number, digits_in, d
 use Rattle.lines.specs.Line.{line, lines_of}
 use Rattle.lines.specs.Parts.{parts}
 use Rattle.taskset.specs.declared.Task.{Task}
-use Rattle.taskset.specs.Refusals.{section_on, longest_section, row_refusals, index_refusals, refusal_by}
+use Rattle.taskset.specs.Refusals.{section_on, longest_section, row_refusals, index_refusals, weight_refusals, refusal_by}
 use Rattle.taskset.specs.Model.{Lists, no_lists, hear, heard, Sound}
 use Rattle.taskset.specs.Holding.{none_sound, heard_sound}
 use Rattle.taskset.specs.Exact.{calls_of}
@@ -46,7 +46,7 @@ example_text =
     (116 ∷ 9 ∷ 49 ∷ 9 ∷ 52 ∷ 9 ∷ 52 ∷ 9 ∷ 48 ∷ eight_zeros)
     ++ (116 ∷ 9 ∷ 50 ∷ 9 ∷ 54 ∷ 9 ∷ 54 ∷ 9 ∷ 48 ∷ eight_zeros)
     ++ (116 ∷ 9 ∷ 51 ∷ 9 ∷ 49 ∷ 50 ∷ 9 ∷ 49 ∷ 50 ∷ 9 ∷ 48 ∷ eight_zeros)
-    ++ (114 ∷ 9 ∷ 49 ∷ 9 ∷ 48 ∷ 10 ∷ [])
+    ++ (114 ∷ 9 ∷ 49 ∷ 9 ∷ 48 ∷ 9 ∷ 49 ∷ 10 ∷ [])
 
 -- and what `orders` writes: `order` and the count, then level, place and response
 abbrev pub example_listing : List ℕ
@@ -90,7 +90,7 @@ pub cases : Cases
 unfolding report reading read_from parts asked has_form are_numbers is_number are_digits value_after
     deciding lines_below flat_map line lines_of listing_with decimal digits_in verdict_on staying tried feasible fill may_take ready
     unassigned unassignable greatest all timing_by response_of window_of window_from demand blocking_of interference sum maximum count hear heard
-    refusal_by row_refusals index_refusals section_on longest_section
+    refusal_by row_refusals index_refusals weight_refusals section_on longest_section
 cases =
     record {
       k1 = refl;

@@ -1,7 +1,7 @@
 -- The preemptive test of document 01 as an instance: a task passes when its response lies within its deadline. Assumes nothing.
 use Rattle.std.specs.Prelude.{Option, Some, None, is_some}
 use Rattle.std.specs.Prelude.{◌≡◌, refl, Bool, true, ◌&&◌, List, ◌↔◌, ℕ, ◌-◌, ◌≤◌, ◌<◌, T, length, get_or}
-use Rattle.std.proofs.Common.{sym, subst, lt→ltb, ⊎_elim, not-suc-le-zero, arith, eqb→eq}
+use Rattle.std.proofs.Common.{sym, subst, lt→ltb, ⊎_elim, arith, eqb→eq}
 use Rattle.sets.specs.Bounded.{Subset}
 use Rattle.sets.specs.Marks.{first, marked}
 use Rattle.taskset.specs.declared.Task.{Task}
@@ -64,7 +64,8 @@ lawful l s =
 
 -- also without rules
 pub bare_lawful : {tasks : List Task} → SoundTasks tasks → Lawful (bare tasks)
-bare_lawful ok = lawful _ (record { tasks = ok; few_rules = omega arith; indices = λ k h. absurd (not-suc-le-zero h) })
+bare_lawful ok =
+    lawful _ (record { tasks = ok; few_rules = omega arith; indices = λ k h. absurd (omega arith); weights = λ k h. absurd (omega arith) })
 
 -- ---- nor can shorter execution times
 

@@ -12,7 +12,7 @@ abbrev pub task : ℕ → ℕ → ℕ → ℕ → ℕ → Task
 task c t d j s = task_of (c ∷ t ∷ d ∷ j ∷ s ∷ 0 ∷ 0 ∷ 0 ∷ 0 ∷ 0 ∷ 0 ∷ 0 ∷ [])
 
 abbrev pub above : ℕ → ℕ → Rule
-above u l = rule_of (u ∷ l ∷ [])
+above u l = rule_of (u ∷ l ∷ 1 ∷ [])
 
 abbrev pub sheet : List Task → List Rule → Lists
 sheet tasks rules = record { tasks = tasks; rules = rules }

@@ -64,9 +64,10 @@ static void task(struct text *t, unsigned execution, unsigned period, unsigned d
     sharing_task(t, execution, period, deadline, jitter, 0, 0, 0);
 }
 
+/* A rule of weight 1. */
 static void rule(struct text *t, unsigned higher, unsigned lower)
 {
-    t->len += (size_t)sprintf((char *)t->bytes + t->len, "r\t%u\t%u\n", higher, lower);
+    t->len += (size_t)sprintf((char *)t->bytes + t->len, "r\t%u\t%u\t1\n", higher, lower);
 }
 
 /* Rules along a chain of n tasks: each above the next, then each above the next but one, and so on. */

@@ -9,10 +9,10 @@
 #include <string.h>
 #include "orders.h"
 
-enum { MAX_TASKS = 64, MAX_RULES = 128, RESOURCES = 8, FIELDS = 4 + RESOURCES, MAX_PERIOD = 1000000, MAX_DIGITS = 7 };
+enum { MAX_TASKS = 64, MAX_RULES = 128, RESOURCES = 8, FIELDS = 4 + RESOURCES, MAX_PERIOD = 1000000, MAX_WEIGHT = 1000, MAX_DIGITS = 7 };
 
 struct task { uint64_t execution, period, deadline, jitter, sections[RESOURCES]; };
-struct rule { uint64_t higher, lower; };
+struct rule { uint64_t higher, lower, weight; };
 
 struct task_set {
     struct task tasks[MAX_TASKS];
@@ -99,6 +99,8 @@ static uint64_t add_rule(struct task_set *s, struct rule r)
         return 11;
     if (s->nrules == MAX_RULES)
         return 12;
+    if (r.weight < 1 || r.weight > MAX_WEIGHT)
+        return 15;
     s->rules[s->nrules++] = r;
     return 0;
 }
@@ -115,7 +117,7 @@ static uint64_t read_line(struct task_set *s, struct reader *r)
         return add_task(s, t);
     }
     if (take(r, 'r'))
-        return take_numbers(r, n, 2) ? add_rule(s, (struct rule){ n[0], n[1] }) : 7;
+        return take_numbers(r, n, 3) ? add_rule(s, (struct rule){ n[0], n[1], n[2] }) : 7;
     return 7;
 }
 

@@ -3,7 +3,7 @@
 
     cases.py PATH/enumerate.py STAGE SEED COUNT DIR
 
-STAGE is the letter of the last request of document 02 that holds, here e. DIR/stdin gets, joined by form feeds
+STAGE is the letter of the last request of document 02 that holds, here f. DIR/stdin gets, joined by form feeds
 (byte 12), questions of two kinds, of each COUNT drawn ones and then those below. The first line is the question:
 `trial` and the marks, or `longest` and a place. Then comes the text that it is asked of. DIR/stdout gets a line
 for each answer, which is the enumerating program's own: of a trial `yes` where one of the orders that meet every
@@ -65,8 +65,14 @@ def made_trials():
     for k in (0, 1, 63, 64, RULES - 2):
         yield "0" * k + "1" + "0" * (RULES - 2 - k) + "1", ring, "no\n"
     yield "1" * RULES, EASY * 2 + r(0, 1) * (RULES - 1), "yes\n"
+    for weight in (1, 2, 1000):  # weights play no part
+        for marks in ("00", "01", "10", "11"):
+            yield marks, A + r(0, 1, weight) + r(1, 0, 1001 - weight), "no\n" if marks == "11" else "yes\n"
     # refused texts, whatever is marked
     for marks in ("", "1" * RULES):
+        for weight in (0, 1001):
+            yield marks, A + r(1, 0) + r(0, 1, weight), bad(5, 15)
+        yield marks, A + b"r\t1\t0\n", bad(4, 7)
         yield marks, GOOD[:-1], bad(1, 7)
         yield marks, t(5, 4, 4, 0), bad(1, 2)
         yield marks, A + r(1, 0) + r(1, 1), bad(5, 6)
@@ -74,11 +80,12 @@ def made_trials():
 
 
 def drawn_longest(program, stage, seed, count):
+    """The first of twice as many, since from f on the enumerating program draws questions of other kinds among them."""
     with tempfile.NamedTemporaryFile("r") as lines:
-        subprocess.run([sys.executable, program, "--stage", stage, "--verb-vectors", seed, count, lines.name], check=True)
-        for line in lines:
-            case = json.loads(line)
-            yield "\t".join(case["args"]), case["text"].encode(), case["answer"]
+        subprocess.run([sys.executable, program, "--stage", stage, "--verb-vectors", seed, str(2 * int(count)), lines.name], check=True)
+        cases = [case for case in map(json.loads, lines) if case["args"][0] == "longest"]
+    for case in cases[:int(count)]:
+        yield "\t".join(case["args"]), case["text"].encode(), case["answer"]
 
 
 def longest(place, figure):
@@ -127,6 +134,11 @@ def made_longest():
     for place in (0, 1):
         yield place, EASY * 2 + r(0, 1) * RULES, longest(place, 99)
         yield place, EASY * 2 + r(0, 1) * (RULES - 1) + r(1, 0), longest(place, 0)
+    # weights play no part
+    for weight in (1, 2, 1000):
+        for place, figure in ((0, 2), (1, 2), (2, 6)):
+            yield place, B + r(1, 0, weight), longest(place, figure)
+            yield place, A + r(0, 1, weight) + r(1, 0, 1001 - weight), longest(place, 0)
     # blocking does not grow with the execution time
     for k in range(RESOURCES):
         shared = t(1, 4, 4, 0, *on(k, 1)) + t(3, 12, 12, 0, *on(k, 3))
@@ -141,6 +153,9 @@ def made_longest():
             yield place, example, longest(place, figure)
     # refused texts, also where the place has no task
     for place in (0, 1, 64):
+        for weight in (0, 1001):
+            yield place, A + r(1, 0) + r(0, 1, weight), bad(5, 15)
+        yield place, A + b"r\t1\t0\n", bad(4, 7)
         yield place, GOOD[:-1], bad(1, 7)
         yield place, t(5, 4, 4, 0), bad(1, 2)
         yield place, A + r(1, 0) + r(1, 1), bad(5, 6)

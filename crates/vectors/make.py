@@ -3,11 +3,11 @@
 
     make.py PATH/enumerate.py STAGE SEED COUNT DIR
 
-STAGE is the letter of the last request of document 02 that holds, here e. DIR/stdin gets those of COUNT drawn
+STAGE is the letter of the last request of document 02 that holds, here f. DIR/stdin gets those of COUNT drawn
 texts that have at most 1,000 bytes, and then the texts below, joined by form feeds (byte 12); DIR/stdout gets
 what `orders` must write for each, one after the other. Every answer is the enumerating program's own: of all
 valid orders it gives the greatest, read from the lowest level up. The texts below also carry the answer that
-the papers give them, and the two must agree. The stored files have SEED 1 and COUNT 1400.
+the papers give them, and the two must agree. The stored files have SEED 1 and COUNT 1412.
 """
 import importlib.util
 import os
@@ -32,8 +32,9 @@ def on(resource, section):
     return [section if k == resource else 0 for k in range(RESOURCES)]
 
 
-def r(*fields):
-    return line_of("r", *fields)
+def r(u, l, weight=1):
+    """A rule line."""
+    return line_of("r", u, l, weight)
 
 
 def bad(line, number):
@@ -98,7 +99,7 @@ def numbers():
     for field in wrong:
         for k in range(len(FIELDS)):
             yield t(*FIELDS[:k], field, *FIELDS[k + 1:]), bad(1, 7)
-        for line in (r(field, 1), r(0, field)):
+        for line in (r(field, 1), r(0, field), r(0, 1, field)):
             yield A + line, bad(4, 7)
             yield line, bad(1, 7)
         yield A + t(1, field, 4, 0), bad(4, 7)
@@ -106,6 +107,8 @@ def numbers():
         for front, line in ((b"", 1), (A, 4)):
             yield front + t(*FIELDS[:k], 9999999, *FIELDS[k + 1:]), bad(line, number)
             yield front + t(*FIELDS[:k], 1000001, *FIELDS[k + 1:]), bad(line, number)
+    yield r(0, 1, 9999999), bad(1, 11)
+    yield A + r(0, 1, 9999999), bad(4, 15)
     for front, line in ((b"", 1), (A, 4)):
         yield front + r(9999999, 1), bad(line, 11)
         yield front + r(0, 9999999), bad(line, 11)
@@ -131,6 +134,7 @@ def forms():
             for word in (b"", b"T", b"R", b"t1", b"tt", b"rr", b"tr", b"x", b"0", b"task", b"order", b"#", b" t", b"t "):
                 yield front + b"\t".join([word, *fields[1:]]) + b"\n", bad(line, 7)
         yield front + b"r" + GOOD[1:], bad(line, 7)
+        yield front + b"t" + rule[1:], bad(line, 7)
         yield front + line_of("t", *FIELDS[:5]), bad(line, 7)
         yield front + b"t\t0\t1\n", bad(line, 7)
         yield front + GOOD[:-1] + rule, bad(line, 7)
@@ -140,11 +144,12 @@ def forms():
 def odd_bytes():
     """Bytes that are none of a line's, in every kind of position."""
     odd = [0, 1, 8, 11, 13, 31, 32, 33, 34, 43, 45, 46, 47, 58, 84, 82, 115, 117, 120, 127, 128, 137, 138, 160, *range(176, 186), 242, 244, 254, 255]
+    rule = r(0, 1)
     for byte in (bytes([b]) for b in odd):
         for text in (byte + GOOD[1:], GOOD[:1] + byte + GOOD[2:], GOOD[:2] + byte + GOOD[3:], GOOD[:-2] + byte + b"\n", GOOD[:-1] + byte + b"\n",
                      GOOD[:-1] + byte):
             yield text, bad(1, 7)
-        for text in (b"r\t0\t1" + byte + b"\n", b"r\t0\t" + byte + b"\n", b"r\t0" + byte + b"1\n", byte + r(0, 1), byte + b"\n", byte):
+        for text in (rule[:-1] + byte + b"\n", rule[:-2] + byte + b"\n", rule[:-3] + byte + b"1\n", byte + rule, byte + b"\n", byte):
             yield A + text, bad(4, 7)
     yield A.replace(b"\n", b"\r\n"), bad(1, 7)
     yield A.replace(b"\n", b"\r"), bad(1, 7)
@@ -199,6 +204,39 @@ def rule_places():
         yield A + r(2, far), bad(4, 11)
 
 
+def weights():
+    """A weight's range at its ends, which refusal comes first, and that it plays no part in a listing."""
+    wrong = (0, 1001, 1002, 1024, 1025, 9999, 10000, 65536, 65537, 1000000)
+    for front, line in ((EASY * 2, 3), (A, 4), (A + r(1, 0, 1000), 5)):
+        for weight in wrong:
+            yield front + r(0, 1, weight), bad(line, 15)
+            yield front + r(0, 1, weight) + b"x\n", bad(line, 15)
+            yield front + r(0, 1, weight)[:-1] + b"\t\n", bad(line, 7)
+        for weight in (0, 1001):
+            yield front + r(1, 1, weight), bad(line, 6)
+            yield front + r(3, 3, weight), bad(line, 6)
+            yield front + r(3, 0, weight), bad(line, 11)
+            yield front + r(0, 3, weight), bad(line, 11)
+            yield front + r(0, 1) + r(0, 1, weight), bad(line + 1, 15)
+            yield front + r(0, 1, weight) + r(0, 0), bad(line, 15)
+            yield front + r(0, 0) + r(0, 1, weight), bad(line, 6)
+            yield front + r(0, 1, weight) + t(1, 0, 1, 0), bad(line, 15)
+        yield front + line_of("r", 0, 1), bad(line, 7)
+        yield front + line_of("r", 0, 1, 1, 1), bad(line, 7)
+    for weight in (0, 1, 1000, 1001):
+        yield r(0, 0, weight), bad(1, 6)
+        yield r(0, 1, weight), bad(1, 11)
+    for weight in (1, 2, 9, 10, 11, 99, 100, 101, 500, 999, 1000):
+        yield EASY * 2 + r(1, 0, weight), order((1, 1), (0, 2))
+    for weight in (1, 2, 1000):
+        yield A + r(1, 0, weight), order((1, 2), (0, 3), (2, 10))
+        yield A + r(1, 0, weight) + r(2, 0, 1) + r(2, 1, 1001 - weight), core((2, 2, 1))
+        yield A + r(0, 1, weight) + r(1, 0, 1001 - weight), core((0, 0, 1), (1, 1, 0))
+        yield A + r(2, 1, weight) + r(2, 1, 1001 - weight), core((1, 2, 1))
+        yield A.replace(b"12\t12", b"12\t9") + r(1, 0, weight), late((0, 0), (1, 0), (2, 10))
+    yield EASY * 2 + b"".join(r(0, 1, 1 + 7 * k) for k in range(128)) + r(0, 1, 1001), bad(131, 12)
+
+
 def full_sheets():
     """After 64 tasks and after 128 rules. A taken sheet of 64 tasks has too many orders to write out."""
     longest = t(1000000, 1000000, 1000000, 999999, *(1000000 for _ in range(RESOURCES)))
@@ -214,7 +252,7 @@ def full_sheets():
         yield full + b"x\n", bad(193, 7)
     rules = EASY * 2 + r(0, 1) * 128
     for more, number in ((r(0, 1), 12), (r(1, 0), 12), (r(0, 1) * 9, 12), (r(0, 1) + b"x\n", 12), (r(0, 0), 6), (r(7, 7), 6), (r(0, 2), 11), (r(2, 0), 11), (r(0, 1)[:-1], 7),
-                         (r(0), 7), (b"\n", 7), (t(1, 0, 1, 0), 1), (EASY[:-1], 7)):
+                         (line_of("r", 0), 7), (line_of("r", 0, 1), 7), (line_of("r", 0, 1, 1, 1), 7), (r(0, 1, 0), 12), (r(1, 0, 1001), 12), (r(0, 0, 0), 6), (r(0, 2, 1001), 11), (b"\n", 7), (t(1, 0, 1, 0), 1), (EASY[:-1], 7)):
         yield rules + more, bad(131, number)
     yield rules + EASY + r(2, 0), bad(132, 12)
     yield rules, order((0, 1), (1, 2))
@@ -235,9 +273,7 @@ def sizes():
             answer = bad(line, number) if size == 16384 else bad(0, 8)
             yield front + b"x" * (size - len(front) - 1) + b"\n", answer
     yield b"x" * 16384, bad(1, 7)
-    yield b"x" * 16385, bad(0, 8)
     yield b"\n" * 16384, bad(1, 7)
-    yield (two + r(0, 1) * 4000)[:16384], bad(131, 12)
     yield (GOOD * 2000)[:16385], bad(0, 8)
 
 
@@ -316,7 +352,7 @@ def sections():
 
 
 def made():
-    for part in (cases, ends, numbers, forms, odd_bytes, ranges, rule_places, full_sheets, sizes, verdicts, late_tasks, sections):
+    for part in (cases, ends, numbers, forms, odd_bytes, ranges, rule_places, weights, full_sheets, sizes, verdicts, late_tasks, sections):
         yield from part()
 
 
@@ -325,7 +361,7 @@ def check_refusals(answers):
     seen = {tuple(map(int, a.split("\t")[1:])) for a in answers if a.startswith("bad")}
     first = {number for line, number in seen if line == 1}
     later = {number for line, number in seen if line > 1}
-    if not first >= {1, 2, 3, 4, 5, 6, 7, 11} or not later >= {1, 2, 3, 4, 5, 6, 7, 10, 11, 12} or not seen >= {(0, 8), (0, 13)}:
+    if not first >= {1, 2, 3, 4, 5, 6, 7, 11} or not later >= {1, 2, 3, 4, 5, 6, 7, 10, 11, 12, 15} or not seen >= {(0, 8), (0, 13)}:
         sys.exit("make.py: a refusal is missing")
 
 

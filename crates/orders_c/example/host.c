@@ -25,12 +25,14 @@ static const char *const meanings[] = {
     [ORDERS_UNKNOWN_TASK] = "a rule names a place that has no task",
     [ORDERS_TOO_MANY_RULES] = "more than 128 rules",
     [ORDERS_NO_TASK] = "the text has no task",
+    [ORDERS_WEIGHT_RANGE] = "a weight is out of its range",
 };
 
 /* Says what a refusal means. */
 static const char *meaning(uint64_t refusal)
 {
-    return refusal >= ORDERS_PERIOD_RANGE && refusal <= ORDERS_NO_TASK ? meanings[refusal] : "an unknown number";
+    const char *known = refusal < sizeof meanings / sizeof meanings[0] ? meanings[refusal] : NULL;
+    return known ? known : "an unknown number";
 }
 
 /* Reads until the room is full or the file ends; a read may give less than was asked for. */

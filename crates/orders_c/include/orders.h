@@ -7,7 +7,8 @@
  *
  *     t  C  T  D  J  S0 .. S7     a task: execution time, period, deadline, jitter, and the
  *                                 longest section on each of eight resources, 0 where it does not use it
- *     r  u  l                     a rule: task u has a higher priority than task l
+ *     r  u  l  weight             a rule: task u has a higher priority than task l; its weight, 1 to 1,000,
+ *                                 plays no part in the listing
  *
  * Times are whole microseconds. Tasks and rules have places, counted from 0.
  * A rule may name only tasks that stand on lines before it.
@@ -63,7 +64,7 @@
  * Results below ORDERS_LISTED are refusals. ORDERS_TEXT_TOO_LONG comes first,
  * then the first line that is refused, then ORDERS_NO_TASK, then
  * ORDERS_BUFFER_TOO_SHORT. On one line ORDERS_UNREADABLE_LINE comes first,
- * then 1 to 5 and 10 for a task, or 6, 11 and 12 for a rule.
+ * then 1 to 5 and 10 for a task, or 6, 11, 12 and 15 for a rule.
  */
 enum {
     ORDERS_PERIOD_RANGE = 1,     /* a period is not 1 to 1,000,000 */
@@ -78,7 +79,8 @@ enum {
     ORDERS_TOO_MANY_TASKS = 10,  /* a task line after 64 tasks */
     ORDERS_UNKNOWN_TASK = 11,    /* a rule names a place that has no task yet */
     ORDERS_TOO_MANY_RULES = 12,  /* a rule line after 128 rules */
-    ORDERS_NO_TASK = 13          /* the text has no task */
+    ORDERS_NO_TASK = 13,         /* the text has no task */
+    ORDERS_WEIGHT_RANGE = 15     /* a weight is not 1 to 1,000 */
 };
 
 /* A result of ORDERS_LISTED + n says that a listing of n bytes was written. */

@@ -99,7 +99,7 @@ static struct bytes hostile(void)
         PUT(made, t.len, "\n");
     }
     for (int k = 0; k < 128; k++)
-        PUT(made, t.len, "r\t%d\t%d\n", 6 + k % 33, 6 + (k + 1) % 33);
+        PUT(made, t.len, "r\t%d\t%d\t%d\n", 6 + k % 33, 6 + (k + 1) % 33, 1 + k);
     return t;
 }
 
@@ -116,7 +116,7 @@ enum {
 
 /* A rule as the library holds it, and the rules of the text that is answered. */
 static struct rule {
-    uint64_t higher, lower;
+    uint64_t higher, lower, weight;
 } list[RULES];
 
 /* Is the timer to go on? Looks that found the list of the task set, and of these the ones that found a part of it elsewhere. */
@@ -135,13 +135,13 @@ static void list_rules(struct bytes t)
     while (t.len > 0) {
         struct bytes line = take_until(&t, '\n');
         char copy[64] = "";
-        unsigned higher, lower;
+        unsigned higher, lower, weight;
         memcpy(copy, line.at, line.len < sizeof copy ? line.len : sizeof copy - 1);
-        if (sscanf(copy, "r\t%u\t%u", &higher, &lower) != 2)
+        if (sscanf(copy, "r\t%u\t%u\t%u", &higher, &lower, &weight) != 3)
             continue;
         if (rules == RULES)
             fail("there are too many rules");
-        list[rules++] = (struct rule){ higher, lower };
+        list[rules++] = (struct rule){ higher, lower, weight };
     }
     if (rules < RULES)
         fail("there are too few rules");

@@ -125,7 +125,8 @@ static inline struct pair next_pair(struct store *s)
 
 /*
  * 64 tasks with 128 rules, each task above the next, then above the next but
- * one, and so on. Each has response 1000000: the longest order, 885 bytes.
+ * one, and so on. Each has response 1000000: the longest order, 885 bytes. Rule
+ * weights rise from 1.
  */
 static inline struct pair full_order(void)
 {
@@ -139,13 +140,13 @@ static inline struct pair full_order(void)
     }
     for (int step = 1; rules < 128; step++)
         for (int k = 0; k + step < 64 && rules < 128; k++, rules++)
-            PUT(text, made.text.len, "r\t%d\t%d\n", k, k + step);
+            PUT(text, made.text.len, "r\t%d\t%d\t%d\n", k, k + step, 1 + rules);
     return made;
 }
 
 /*
  * 64 tasks and a circle of 64 rules, twice: the first 64 rules are taken out,
- * and each of the others is needed. 592 bytes.
+ * and each of the others is needed. 592 bytes. Rule weights fall from 1000.
  */
 static inline struct pair full_core(void)
 {
@@ -155,7 +156,7 @@ static inline struct pair full_core(void)
     for (int k = 0; k < 64; k++)
         PUT(text, made.text.len, "t\t1\t1000000\t1000000\t0" NO_SECTIONS);
     for (int k = 0; k < 128; k++)
-        PUT(text, made.text.len, "r\t%d\t%d\n", k % 64, (k + 1) % 64);
+        PUT(text, made.text.len, "r\t%d\t%d\t%d\n", k % 64, (k + 1) % 64, 1000 - k);
     for (int k = 0; k < 64; k++)
         PUT(listing, made.answer.len, "%d\t%d\t%d\n", k + 64, k, (k + 1) % 64);
     return made;
@@ -175,7 +176,7 @@ static inline struct pair full_late(void)
         PUT(listing, made.answer.len, "late\t%d\t1000000\n", k);
     }
     for (int k = 0; k < 128; k++)
-        PUT(text, made.text.len, "r\t%d\t%d\n", k % 64, (k + 1) % 64);
+        PUT(text, made.text.len, "r\t%d\t%d\t1\n", k % 64, (k + 1) % 64);
     return made;
 }
 

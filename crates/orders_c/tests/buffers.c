@@ -238,7 +238,8 @@ static void call_all(struct bytes text, struct answer want)
 static int fits(uint64_t result, const uint8_t *out)
 {
     if (result < ORDERS_LISTED)
-        return result >= ORDERS_PERIOD_RANGE && result <= ORDERS_NO_TASK && result != ORDERS_BUFFER_TOO_SHORT;
+        return (result >= ORDERS_PERIOD_RANGE && result <= ORDERS_NO_TASK && result != ORDERS_BUFFER_TOO_SHORT)
+               || result == ORDERS_WEIGHT_RANGE;
     size_t len = (size_t)(result - ORDERS_LISTED);
     if (result > ORDERS_LISTED + ORDERS_LISTING_MAX || len < 7 || out[len - 1] != '\n')
         return 0;

@@ -83,7 +83,9 @@ static size_t need(void)
  * 64 tasks and 128 rules that take long: six tasks leave little of the
  * processor, rules stand in circles, and late tasks are tried at each level.
  * All eight resources are used. The deadlines of the late ones rise by what one
- * more task above them adds to a response there, about 18,704 µs.
+ * more task above them adds to a response there, about 18,704 µs. Rule weights
+ * fall from 1000: in the rows of a listing, which look like rules from their
+ * second number on, the next place stands where a weight would.
  */
 static struct bytes hostile(void)
 {
@@ -99,7 +101,7 @@ static struct bytes hostile(void)
         PUT(made, t.len, "\n");
     }
     for (int k = 0; k < 128; k++)
-        PUT(made, t.len, "r\t%d\t%d\t%d\n", 6 + k % 33, 6 + (k + 1) % 33, 1 + k);
+        PUT(made, t.len, "r\t%d\t%d\t%d\n", 6 + k % 33, 6 + (k + 1) % 33, 1000 - k);
     return t;
 }
 

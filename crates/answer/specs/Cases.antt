@@ -22,7 +22,7 @@ use Rattle.response.specs.Timing.{timing_by}
 use Rattle.assignment.specs.LateTasks.{unassignable}
 use Rattle.assignment.specs.Orders.{every_rule, hp, ValidOrder, SomeOrder}
 use Rattle.assignment.specs.Audsley.{unassigned, ready, may_take, fill, feasible, response_at}
-use Rattle.verdict.specs.Core.{tried, staying}
+use Rattle.verdict.specs.Core.{tried, cut_of}
 use Rattle.verdict.specs.Verdict.{cored, verdict_on, deciding}
 use Rattle.verdict.specs.Solving.{assign_valid}
 use Rattle.listing.specs.Listing.{lines_below, listing_with, listing}
@@ -88,7 +88,7 @@ heard_whole l e = subst Sound e (heard_sound no_lists none_sound (calls_of l))
 
 pub cases : Cases
 unfolding report reading read_from parts asked has_form are_numbers is_number are_digits value_after
-    deciding lines_below flat_map line lines_of listing_with decimal digits_in verdict_on staying tried feasible fill may_take ready
+    deciding lines_below flat_map line lines_of listing_with decimal digits_in verdict_on cut_of tried feasible fill may_take ready
     unassigned unassignable greatest all timing_by response_of window_of window_from demand blocking_of interference sum maximum count hear heard
     refusal_by row_refusals index_refusals weight_refusals section_on longest_section
 cases =

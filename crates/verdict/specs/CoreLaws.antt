@@ -1,5 +1,5 @@
--- What a core is, over any test that fewer rules can't break: infeasible, while without any one of its rules it is feasible;
--- and empty exactly where no rules at all are infeasible. Assumes nothing.
+-- What is left of an infeasible set of rules when each was tried, over any test that fewer rules can't break: it is infeasible,
+-- while without any one of its rules it is feasible; and it is empty exactly where no rules at all are infeasible. Assumes nothing.
 use Rattle.std.specs.Prelude.{◌≡◌, Bool, ◌↔◌}
 use Rattle.std.proofs.Math.Path.{refl, subst, fun_ext}
 use Rattle.std.proofs.Common.{sym, arith, not-suc-le-zero, le_of_suc-le-suc, eq-or-lt_of_le}
@@ -10,11 +10,22 @@ use Rattle.std.proofs.Math.Dec.{T, ltb→lt}
 use Rattle.sets.specs.Marks.{first}
 use Rattle.sets.specs.Choice.{pick, true→T, false→refuted, refuted→false}
 use Rattle.sets.specs.Bounded.{Subset, without, without_still, without_other}
-use Rattle.verdict.specs.Core.{tried, staying, core_of}
+use Rattle.verdict.specs.Core.{tried, cut_of, by_place}
 
-module _ (feasible : (ℕ → Bool) → Bool) (m : ℕ) where
+-- the first m rules are below m, and each has a turn by its place
+pub first_below : (m j : ℕ) → T (first m j) → j < m
+first_below m j = ltb→lt j m
+
+-- each rule of a set has one of the first m turns
+abbrev pub EachTurn : (ℕ → ℕ) → (ℕ → Bool) → ℕ → Type 0
+EachTurn turn start m = (j : ℕ) → T (start j) → (i : ℕ) × (i < m) × (turn i ≡ j)
+
+pub place_turn : (m : ℕ) → EachTurn by_place (first m) m
+place_turn m j t = (j, first_below m j t, refl)
+
+module _ (feasible : (ℕ → Bool) → Bool) (turn : ℕ → ℕ) (start : ℕ → Bool) where
   abbrev stay : ℕ → ℕ → Bool
-  stay = staying feasible m
+  stay = cut_of feasible turn start
 
   -- what holds where a rule stays, and where it goes, holds after it was tried
   by_trial : (P : (ℕ → Bool) → Type 0) (active : ℕ → Bool) (k : ℕ) → (T (feasible (without active k)) → P active)
@@ -26,60 +37,66 @@ module _ (feasible : (ℕ → Bool) → Bool) (m : ℕ) where
       go true e = stays (true→T (feasible (without active k)) e)
       go false e = goes (false→refuted (feasible (without active k)) e)
 
-  stay_shrinks : (k j : ℕ) → T (stay (suc k) j) → T (stay k j)
-  unfolding staying
-  stay_shrinks k j =
-      by_trial (λ s. T (s j) → T (stay k j)) (stay k) k (λ f t. t) (λ f t. (without_still (stay k) k j t).0)
+  stay_shrinks : (n j : ℕ) → T (stay (suc n) j) → T (stay n j)
+  unfolding cut_of
+  stay_shrinks n j =
+      by_trial (λ s. T (s j) → T (stay n j)) (stay n) (turn n) (λ f t. t) (λ f t. (without_still (stay n) (turn n) j t).0)
 
-  pub core_rules : (k j : ℕ) → T (stay k j) → j < m
-  unfolding staying
-  core_rules zero j t = ltb→lt j m t
-  core_rules (suc k) j t = core_rules k j (stay_shrinks k j t)
+  -- what is left is part of the set
+  pub cut_rules : (n j : ℕ) → T (stay n j) → T (start j)
+  unfolding cut_of
+  cut_rules zero j t = t
+  cut_rules (suc n) j t = cut_rules n j (stay_shrinks n j t)
 
-  -- so it has none from m on
-  pub core_beyond : (k : ℕ) → m ≤ k → core_of feasible m k ≡ false
-  core_beyond k h = refuted→false (core_of feasible m k) (λ t. omega (arith, h, core_rules m k t))
+  -- and infeasible, where the set is
+  pub cut_infeasible : (n : ℕ) → (T (feasible start) → ⊥) → T (feasible (stay n)) → ⊥
+  unfolding cut_of
+  cut_infeasible zero whole = whole
+  cut_infeasible (suc n) whole =
+      by_trial (λ s. T (feasible s) → ⊥) (stay n) (turn n) (λ f. cut_infeasible n whole) (λ f. f)
 
-  module _ (antitone : (B A : ℕ → Bool) → Subset m B A → T (feasible A) → T (feasible B)) where
-    stay_infeasible : (T (feasible (first m)) → ⊥) → (k : ℕ) → T (feasible (stay k)) → ⊥
-    unfolding staying
-    stay_infeasible all zero = all
-    stay_infeasible all (suc k) =
-        by_trial (λ s. T (feasible s) → ⊥) (stay k) k (λ f. stay_infeasible all k) (λ f. f)
+  -- so it has none from where on the set has none
+  pub cut_beyond : (n m : ℕ) → ((j : ℕ) → T (start j) → j < m) → (k : ℕ) → m ≤ k → stay n k ≡ false
+  cut_beyond n m inside k h = refuted→false (stay n k) (λ t. omega (arith, h, inside k (cut_rules n k t)))
 
+  module _ (m : ℕ) (antitone : (B A : ℕ → Bool) → Subset m B A → T (feasible A) → T (feasible B)) where
     -- a rule that stayed is needed, whatever went later
-    stay_needed : (k j : ℕ) → j < k → T (stay k j) → T (feasible (without (stay k) j))
-    unfolding staying
-    stay_needed zero j h = absurd (not-suc-le-zero h)
-    stay_needed (suc k) j h = ⊎_elim at_k (earlier (stay_needed k j)) (eq-or-lt_of_le (le_of_suc-le-suc h))
+    stay_needed : (n i : ℕ) → i < n → T (stay n (turn i)) → T (feasible (without (stay n) (turn i)))
+    unfolding cut_of
+    stay_needed zero i h = absurd (not-suc-le-zero h)
+    stay_needed (suc n) i h = ⊎_elim now (earlier (stay_needed n i)) (eq-or-lt_of_le (le_of_suc-le-suc h))
       where
-        at_k : j ≡ k → T (stay (suc k) j) → T (feasible (without (stay (suc k)) j))
-        at_k e =
-            subst (λ (i : ℕ). T (stay (suc k) i) → T (feasible (without (stay (suc k)) i))) (sym e)
-            (by_trial (λ s. T (s k) → T (feasible (without s k))) (stay k) k (λ f t. f) (λ f t. absurd ((without_still (stay k) k k t).1 refl)))
+        now : i ≡ n → T (stay (suc n) (turn i)) → T (feasible (without (stay (suc n)) (turn i)))
+        now e =
+            subst (λ (q : ℕ). T (stay (suc n) (turn q)) → T (feasible (without (stay (suc n)) (turn q)))) (sym e)
+            (by_trial (λ s. T (s (turn n)) → T (feasible (without s (turn n)))) (stay n) (turn n) (λ f t. f)
+            (λ f t. absurd ((without_still (stay n) (turn n) (turn n) t).1 refl)))
 
-        earlier : (j < k → T (stay k j) → T (feasible (without (stay k) j))) → j < k → T (stay (suc k) j)
-            → T (feasible (without (stay (suc k)) j))
+        earlier : (i < n → T (stay n (turn i)) → T (feasible (without (stay n) (turn i)))) → i < n → T (stay (suc n) (turn i))
+            → T (feasible (without (stay (suc n)) (turn i)))
         earlier before l t =
-            antitone (without (stay (suc k)) j) (without (stay k) j)
-            (λ i h s. let w = without_still (stay (suc k)) j i s in without_other (stay k) j i w.1 (stay_shrinks k i w.0))
-            (before l (stay_shrinks k j t))
+            antitone (without (stay (suc n)) (turn i)) (without (stay n) (turn i))
+            (λ j h s. let w = without_still (stay (suc n)) (turn i) j s in without_other (stay n) (turn i) j w.1 (stay_shrinks n j w.0))
+            (before l (stay_shrinks n (turn i) t))
 
-    pub core_infeasible : (T (feasible (first m)) → ⊥) → T (feasible (core_of feasible m)) → ⊥
-    core_infeasible all = stay_infeasible all m
+    -- with all turns taken
+    module _ (each : EachTurn turn start m) where
+      abbrev left : ℕ → Bool
+      left = stay m
 
-    pub core_needed : (j : ℕ) → T (core_of feasible m j) → T (feasible (without (core_of feasible m) j))
-    core_needed j t = stay_needed m j (core_rules m j t) t
+      pub cut_needed : (j : ℕ) → T (left j) → T (feasible (without left j))
+      cut_needed j t =
+          let i = each j (cut_rules m j t) in
+          subst (λ (q : ℕ). T (left q) → T (feasible (without left q))) i.2 (stay_needed m i.0 i.1) t
 
-    pub core_empty : (T (feasible (first m)) → ⊥)
-        → ((j : ℕ) → T (core_of feasible m j) → ⊥) ↔ (T (feasible (λ j. false)) → ⊥)
-    core_empty all = (
-      λ empty f. core_infeasible all (antitone (core_of feasible m) (λ j. false) (λ j h t. empty j t) f),
-      λ hopeless j t. hopeless (antitone (λ j. false) (without (core_of feasible m) j) (λ i h s. absurd s) (core_needed j t)),
-    )
+      pub cut_empty : (T (feasible start) → ⊥) → ((j : ℕ) → T (left j) → ⊥) ↔ (T (feasible (λ j. false)) → ⊥)
+      cut_empty whole = (
+        λ none f. cut_infeasible m whole (antitone left (λ j. false) (λ j h t. none j t) f),
+        λ hopeless j t. hopeless (antitone (λ j. false) (without left j) (λ i h s. absurd s) (cut_needed j t)),
+      )
 
-    -- then there is nothing to try
-    pub core_hopeless : (T (feasible (λ j. false)) → ⊥) → (λ j. false) ≡ core_of feasible m
-    core_hopeless hopeless =
-        let all : T (feasible (first m)) → ⊥ = λ f. hopeless (antitone (λ j. false) (first m) (λ j h t. absurd t) f) in
-        fun_ext (λ j. sym (refuted→false (core_of feasible m j) ((core_empty all).1 hopeless j)))
+      -- then there is nothing to try
+      pub cut_hopeless : (T (feasible (λ j. false)) → ⊥) → (λ j. false) ≡ left
+      cut_hopeless hopeless =
+          let whole : T (feasible start) → ⊥ = λ f. hopeless (antitone (λ j. false) start (λ j h t. absurd t) f) in
+          fun_ext (λ j. sym (refuted→false (left j) ((cut_empty whole).1 hopeless j)))

@@ -4,17 +4,18 @@ use Rattle.std.proofs.Common.{sym, subst, ◌∙◌, inr, ⊎_elim, arith, lengt
 use Rattle.sets.specs.Marks.{first, marked, marked-none, marked-without, table_is}
 use Rattle.sets.specs.Choice.{T→true, refuted→false}
 use Rattle.sets.specs.Bounded.{Subset, without, without_still}
+use Rattle.taskset.specs.declared.Task.{Task}
 use Rattle.taskset.specs.Refusals.{max_rules}
 use Rattle.taskset.specs.Model.{Lists, rule_at, Sound}
 use Rattle.assignment.specs.declared.Search.{Search}
-use Rattle.assignment.specs.Audsley.{Problem, feasible, Stuck, problem}
+use Rattle.assignment.specs.Audsley.{Problem, feasible, Stuck, problem, bare}
 use Rattle.assignment.specs.Decision.{Lawful, stuck_without, feasible_fewer}
-use Rattle.assignment.specs.Search.{Searched, Ended}
+use Rattle.assignment.specs.Search.{Searched, Ended, Known}
 use Rattle.assignment.specs.Filling.{ended_decides, searched_fewer}
 use Rattle.assignment.specs.Hints.{searched_bare}
 use Rattle.verdict.specs.declared.Cut.{Cut}
-use Rattle.verdict.specs.Core.{tried, staying, core_of}
-use Rattle.verdict.specs.CoreLaws.{core_beyond, core_hopeless}
+use Rattle.verdict.specs.Core.{tried, by_place, cut_of, core_of}
+use Rattle.verdict.specs.CoreLaws.{first_below, place_turn, cut_beyond, cut_hopeless}
 use Rattle.verdict.specs.Cut.{Cutting, core_marks}
 
 -- ---- a rule tried
@@ -28,11 +29,15 @@ module _ (test : (ℕ → Bool) → Bool) where
   unfolding tried
   tried_goes active k t = rw (refuted→false (test (without active k)) t)
 
-  pub stay_none : (m : ℕ) → first m ≡ staying test m 0
-  unfolding staying
-  stay_none m = refl
+  pub cut_none : (turn : ℕ → ℕ) (start : ℕ → Bool) → start ≡ cut_of test turn start 0
+  unfolding cut_of
+  cut_none turn start = refl
 
 -- ---- while a core is cut down
+
+-- what is known of a system's tasks is known of its own list
+pub known_own : {lent own : List Task} → lent ≡ own → (left known : ℕ → Bool) → Known (bare lent) left known → Known (bare own) left known
+known_own e left known = subst (λ (tasks : List Task). Known (bare tasks) left known) e
 
 module _ (p : Problem) (lawful : Lawful p) (c : Cut) (cutting : Cutting p c) (k : ℕ) (h : k < max_rules) where
   -- the rules that are left in it without this one, as the code writes them
@@ -106,7 +111,8 @@ module _ (p : Problem) (lawful : Lawful p) (n : ℕ) where
   none-stay s ended more =
       let none = marked-none n in
       none
-      ∙ core_hopeless (feasible p) (length p.rules) (λ B A fewer. feasible_fewer p B A fewer lawful)
+      ∙ cut_hopeless (feasible p) by_place (first (length p.rules)) (length p.rules) (λ B A fewer. feasible_fewer p B A fewer lawful)
+      (place_turn (length p.rules))
       (λ t. more ((ended_decides p (marked (replicate n false)) lawful s ended).1 (subst (λ (f : ℕ → Bool). T (feasible p f)) (sym none) t)))
 
 -- ---- when it is done
@@ -118,4 +124,4 @@ unfolding core_marks
 core-marked l sound marks long e =
     let m = length l.rules in
     let test = feasible (problem l) in
-    table_is max_rules m (core_of test m) marks long sound.few_rules e (core_beyond test m)
+    table_is max_rules m (core_of test m) marks long sound.few_rules e (cut_beyond test by_place (first m) m m (first_below m))

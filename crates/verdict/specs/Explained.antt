@@ -26,8 +26,8 @@ use Rattle.verdict.specs.declared.Finding.{Finding}
 use Rattle.verdict.specs.declared.Finding.TheVariants.{Order, Core}
 use Rattle.verdict.specs.declared.Verdict.{Verdict}
 use Rattle.verdict.specs.declared.Solved.{Solved}
-use Rattle.verdict.specs.Core.{core_of}
-use Rattle.verdict.specs.CoreLaws.{core_rules, core_beyond, core_infeasible, core_needed, core_empty}
+use Rattle.verdict.specs.Core.{by_place, core_of}
+use Rattle.verdict.specs.CoreLaws.{first_below, place_turn, cut_rules, cut_beyond, cut_infeasible, cut_needed, cut_empty}
 use Rattle.verdict.specs.Verdict.{ordered, cored, responses_in, verdict_by, verdict_on, deciding, solving}
 use Rattle.verdict.specs.Correct.{order_given, core_given, Correct, Explains}
 use Rattle.verdict.specs.Solving.{assign_valid, deciding_on, solving_made}
@@ -129,7 +129,7 @@ module _ (l : Lists) (sound : Sound l) where
     refusal = cored (table m core)
 
     marks : core_given refusal ≡ core
-    marks = marked_padded max_rules m core (core_beyond test m)
+    marks = marked_padded max_rules m core (cut_beyond test by_place (first m) m m (first_below m))
 
     -- said of the marks as of the core
     of_core : (P : (ℕ → Bool) → Type 0) → P core → P (core_given refusal)
@@ -146,13 +146,13 @@ module _ (l : Lists) (sound : Sound l) where
           core_alone = λ e. (refl, refl);
           refuses = (λ e o. no ((feasible-order l sound (first m)).1 (o.0, (first_valid l o.0).1 o.1)), λ e. refl);
           valid = λ e. absurd (order_not_core (sym e));
-          rules = λ e. of_core (λ f. (k : ℕ) → T (f k) → k < m) (core_rules test m m);
-          clash = λ e o. of_core (λ f. T (test f) → ⊥) (core_infeasible test m antitone no) ((feasible-order l sound (core_given refusal)).1 o);
+          rules = λ e. of_core (λ f. (k : ℕ) → T (f k) → k < m) (λ k t. first_below m k (cut_rules test by_place (first m) m k t));
+          clash = λ e o. of_core (λ f. T (test f) → ⊥) (cut_infeasible test by_place (first m) m no) ((feasible-order l sound (core_given refusal)).1 o);
           needed = λ e k t.
               (feasible-order l sound (without (core_given refusal) k)).0
-              (of_core (λ f. (j : ℕ) → T (f j) → T (test (without f j))) (core_needed test m antitone) k t);
+              (of_core (λ f. (j : ℕ) → T (f j) → T (test (without f j))) (cut_needed test by_place (first m) m antitone (place_turn m)) k t);
           empty = λ e.
-              let c = of_core (λ f. ((j : ℕ) → T (f j) → ⊥) ↔ (T (test no_rule) → ⊥)) (core_empty test m antitone no) in
+              let c = of_core (λ f. ((j : ℕ) → T (f j) → ⊥) ↔ (T (test no_rule) → ⊥)) (cut_empty test by_place (first m) m antitone (place_turn m) no) in
               let o = feasible-order l sound no_rule in
               (λ none some. c.0 none (o.1 some), λ none. c.1 (λ t. none (o.0 t)));
           responses = λ e. absurd (order_not_core (sym e));

@@ -9,7 +9,7 @@ ghost use Rattle.taskset.specs.Views.{lists_of};
 ghost use Rattle.assignment.specs.LateTasks.{unassignable};
 ghost use Rattle.assignment.specs.Audsley.{feasible, problem};
 ghost use Rattle.assignment.specs.Search.{Ended};
-ghost use Rattle.verdict.specs.Core.{tried, core_of};
+ghost use Rattle.verdict.specs.Core.{tried, by_place, cut_of};
 ghost use Rattle.verdict.specs.Verdict.{refused, verdict_on, deciding, solving};
 ghost use Rattle.verdict.specs.Correct.{Correct, Explains};
 ghost use Rattle.verdict.specs.OneOrder.{OneOrder};
@@ -50,7 +50,7 @@ pub struct Solved {
 }
 
 // A core being cut down: the rules still in it, where the search with them got stuck, the tasks known to meet their deadline
-// with the others left there above them, and the last search that found an order.
+// with the others left there above them, and another search: the last that found an order, once one did.
 #[derive(Clone, Copy)]
 pub struct Cut {
     pub active: [bool; MAX_RULES],
@@ -67,9 +67,25 @@ pub struct Unschedulable {
 }
 
 impl Cut {
+    // No rule of active ones that have no valid order is tried yet: from where the search with them got stuck.
+    pub fn start(system: System<'_>, active: [bool; MAX_RULES], stuck: Search) -> Cut
+        requires ended { Ended (problem (lists_of system)) (marked active) stuck }
+        requires le_free { 1 ≤ stuck.free }
+        ensures cutting { Cutting (problem (lists_of system.entry)) result }
+        ensures active { result.active ≡ active }
+    {
+        let known = passing(system.without_rules(), &stuck.left);
+        Cut {
+            active,
+            stuck,
+            known,
+            other: stuck,
+        }
+    }
+
     // Rule k tried: out for good where the other rules still have no valid order. Where its two tasks are not both left it changes
     // nothing, and no search is made.
-    fn try_rule(&mut self, system: System<'_>, k: usize)
+    pub fn try_rule(&mut self, system: System<'_>, k: usize)
         requires k_in_bounds { k < length system.rules.now }
         requires cuts { Cutting (problem (lists_of system)) self.old }
         ensures active { marked self.new.active ≡ tried (feasible (problem (lists_of system.entry))) (marked self.old.active) k }
@@ -95,11 +111,10 @@ impl Cut {
     }
 
     // The rules that stay when each is tried in turn, on what is left.
-    #[tactic(auto, unfolding(crate::specs::Core::staying))]
+    #[tactic(auto, unfolding(crate::specs::Core::cut_of))]
     fn cut_down(mut self, system: System<'_>) -> [bool; MAX_RULES]
-        requires cutting { Cutting (problem (lists_of system)) self }
-        requires active { marked self.active ≡ first (length system.rules.now) }
-        ensures { marked result ≡ core_of (feasible (problem (lists_of system.entry))) (length system.entry.rules.now) }
+        requires { Cutting (problem (lists_of system)) self }
+        ensures { marked result ≡ cut_of (feasible (problem (lists_of system.entry))) by_place (marked self.active) (length system.entry.rules.now) }
     {
         for k in 0..system.rules.len() {
             self.try_rule(system, k);

@@ -1,19 +1,18 @@
 -- Without rules nothing is tried; stuck without them, none is in the core; else the core is what is left. Assumes nothing.
-use Rattle.std.proofs.Common.{◌≡◌, ℕ, Bool, false, List, T, length, replicate, refl, ap, sym, subst, eqb-true, inr, arith, rules, ◌∙◌}
-use Rattle.sets.specs.Marks.{marked, marked-none, marked_first_none}
-use Rattle.taskset.specs.declared.Task.{Task}
+use Rattle.std.proofs.Common.{◌≡◌, ℕ, Bool, false, T, length, replicate, refl, ap, sym, subst, eqb-true, inr, arith, rules, ◌∙◌}
+use Rattle.sets.specs.Marks.{first, marked, marked-none, marked_first_none}
 use Rattle.taskset.specs.Refusals.{max_rules}
 use Rattle.taskset.specs.Model.{Lists, Sound}
 use Rattle.taskset.specs.Views.{lists_of}
 use Rattle.assignment.specs.declared.Search.{Search}
 use Rattle.assignment.specs.LateTasks.{unassignable}
 use Rattle.assignment.proofs.LateLaws.{left-unassignable}
-use Rattle.assignment.specs.Audsley.{feasible, problem, bare}
+use Rattle.assignment.specs.Audsley.{feasible, problem}
 use Rattle.assignment.proofs.Preemptive.{lawful}
-use Rattle.assignment.specs.Search.{Ended, Known}
+use Rattle.assignment.specs.Search.{Ended}
 use Rattle.assignment.specs.Hints.{searched_bare}
-use Rattle.verdict.specs.Core.{core_of}
-use Rattle.verdict.specs.Cutting.{stay_none, none_searched, none-stay, core-marked}
+use Rattle.verdict.specs.Core.{by_place, cut_of, core_of}
+use Rattle.verdict.specs.Cutting.{known_own, cut_none, none_searched, none-stay, core-marked}
 use Rattle.verdict.proofs.core.Goals as goal
 
 -- the tasks that the search without rules leaves
@@ -24,10 +23,6 @@ rest l sound none s ended away = left-unassignable l sound _ _ ended (inr (λ k 
 no_marks : (n k : ℕ) → T (marked (replicate n false) k) → ⊥
 no_marks n k on = subst (λ (f : ℕ → Bool). T (f k)) (marked-none n) on
 
--- what is known of a system's tasks is known of its own list
-known_own : {lent own : List Task} → lent ≡ own → (left known : ℕ → Bool) → Known (bare lent) left known → Known (bare own) left known
-known_own e left known = subst (λ (tasks : List Task). Known (bare tasks) left known) e
-
 -- no rules: nothing is tried
 pub returns-then-is_empty : goal.returns-then-is_empty
 returns-then-is_empty c =
@@ -36,7 +31,7 @@ returns-then-is_empty c =
     let none = eqb-true (length l.rules) 0 (sym c.if-is_empty.ensures) in
     record {
       core_value =
-          core-marked l c.args.system.sound _ refl (marked_first_none max_rules ∙ stay_none test 0 ∙ ap (core_of test) (sym none));
+          core-marked l c.args.system.sound _ refl (marked_first_none max_rules ∙ cut_none test by_place (first 0) ∙ ap (core_of test) (sym none));
       left = left-unassignable l c.args.system.sound _ _ c.requires.ended (inr (λ k h on. omega (arith, h, none)));
     }
 
@@ -51,8 +46,8 @@ fill_levels-other-requires-clause-helped c =
       other = searched_bare (problem (lists_of c.args.system)) _ _ c.requires.ended.searched;
     }
 
-pub cut_down-core-requires-clause-cutting : goal.cut_down-core-requires-clause-cutting
-cut_down-core-requires-clause-cutting c =
+pub cut_down-core-requires : goal.cut_down-core-requires
+cut_down-core-requires c =
     record {
       long = search rules;
       stuck = c.requires.ended;
@@ -65,8 +60,9 @@ pub returns : goal.returns
 returns c =
     let l = lists_of c.args.system in
     let long : length c.cut_down-core.result ≡ max_rules = search rules in
+    let start = ap (λ (f : ℕ → Bool). cut_of (feasible (problem l)) by_place f (length l.rules)) c.requires.active_value in
     record {
-      core_value = core-marked l c.args.system.sound _ long c.cut_down-core.ensures;
+      core_value = core-marked l c.args.system.sound _ long (c.cut_down-core.ensures ∙ start);
       left = rest l c.args.system.sound _ _ c.fill_levels-other.ensures.ended (no_marks max_rules);
     }
 

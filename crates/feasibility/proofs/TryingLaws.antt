@@ -16,21 +16,25 @@ use Rattle.assignment.proofs.Preemptive.{feasible-order}
 use Rattle.feasibility.specs.Trying.{trying}
 use Rattle.feasibility.specs.Decides.{Decides}
 
+-- ---- a search of lists that has ended with so many free levels
+
+pub none_free : (l : Lists) → Sound l → (active : ℕ → Bool) (free : ℕ) → (free ≡ 0) ↔ SomeOrder l active
+    → nat_eq free 0 ≡ feasible (problem l) active
+none_free l sound active free decides =
+    let order = feasible-order l sound active in
+    same_test _ _ (λ t. order.1 (decides.0 (eqb→eq free 0 t))) (λ t. true→T _ (eq-eqb free 0 (decides.1 (order.0 t))))
+
 -- ---- the answer
 
 pub trying_14 : (s : TaskSet) (active : List Bool) → is_made s ≡ false → Err NotMade ≡ trying s active
 unfolding trying
 trying_14 s active e = rw e
 
--- of a search of its lists that has ended with so many free levels
-pub trying_made : (s : TaskSet) (active : List Bool) → is_made s ≡ true → (l : Lists) → Sound l → l ≡ lists s → (free : ℕ)
-    → (free ≡ 0) ↔ SomeOrder l (marked active) → Ok (nat_eq free 0) ≡ trying s active
+-- of a trial of its lists
+pub trying_made : (s : TaskSet) (active : List Bool) → is_made s ≡ true → (l : Lists) → l ≡ lists s → (found : Bool)
+    → found ≡ feasible (problem l) (marked active) → Ok found ≡ trying s active
 unfolding trying
-trying_made s active made l sound same free decides =
-    let order = feasible-order l sound (marked active) in
-    let found : nat_eq free 0 ≡ feasible (problem l) (marked active) =
-    same_test _ _ (λ t. order.1 (decides.0 (eqb→eq free 0 t))) (λ t. true→T _ (eq-eqb free 0 (decides.1 (order.0 t)))) in
-    rw made (ap Ok found ∙ ap (λ (k : Lists). Ok (feasible (problem k) (marked active))) same)
+trying_made s active made l same found e = rw made (ap Ok e ∙ ap (λ (k : Lists). Ok (feasible (problem k) (marked active))) same)
 
 -- ---- what that says
 

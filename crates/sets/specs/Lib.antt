@@ -1,6 +1,7 @@
 pub mod Choice
 pub mod Bounded
 pub mod Sum
+pub mod Numbered
 pub mod Maximum
 pub mod Rank
 pub mod Pad

@@ -79,6 +79,17 @@ marked_padded n m A out =
     (λ g. pad-rest n false (table m A) k (omega (arith, g, length-table m A)) ∙ sym (out k g))
     (lt_or_le k m))
 
+-- an array of n marks is the list of them, and a list of marks that has all has them
+pub marks_table : (n : ℕ) (A : ℕ → Bool) (marks : List Bool) → length marks ≡ n → marked marks ≡ A → marks ≡ table n A
+marks_table n A marks long e =
+    ext_get_or false marks (table n A) (long ∙ sym (length-table n A))
+    (λ k h. ap (λ (f : ℕ → Bool). f k) e ∙ sym (get_or-table n A false k (omega (arith, h, long))))
+
+pub marked-table : (n : ℕ) (A : ℕ → Bool) → ((k : ℕ) → n ≤ k → A k ≡ false) → marked (table n A) ≡ A
+marked-table n A out =
+    fun_ext (λ k. ⊎_elim (get_or-table n A false k)
+    (λ g. get_or-eq_default (table n A) false (omega (arith, g, length-table n A)) ∙ sym (out k g)) (lt_or_le k n))
+
 -- an array of n entries whose first m a loop wrote over, where all are then those of f
 pub written-table : {A : Type 0} (n m : ℕ) (f : ℕ → A) (d : A) (front old : List A) → length front ≡ m → m ≤ n → length old ≡ n
     → ((k : ℕ) → k < m → get_or front k d ≡ f k) → ((k : ℕ) → m ≤ k → k < n → get_or old k d ≡ f k) → front ++ drop m old ≡ table n f

@@ -1,6 +1,6 @@
 -- Sums over a marked set of the numbers below a bound. Assumes nothing.
 use Rattle.std.specs.Prelude.{◌≡◌, refl, Bool, true, false, ℕ, zero, suc, ◌+◌, ◌*◌, ◌≤◌, ◌<◌, T, eqb}
-use Rattle.std.proofs.Common.{sym, ap, subst, eqb→eq, ⊎_elim, le_refl, le_antisymm, le_of_eq, add-le-add, mul-zero, zero-mul, suc-mul, mul-add, not-suc-le-zero, le_of_suc-le-suc, eq-or-lt_of_le, add-one, arith}
+use Rattle.std.proofs.Common.{ap, subst, eqb→eq, ⊎_elim, le_refl, le_antisymm, add-le-add, mul-zero, zero-mul, suc-mul, mul-add, not-suc-le-zero, le_of_suc-le-suc, eq-or-lt_of_le, add-one, arith}
 use Rattle.std.proofs.Math.Nat.{le_step}
 use Rattle.sets.specs.Choice.{pick, T→true, refuted→false}
 use Rattle.sets.specs.Bounded.{Subset, without, without_still, without_other}
@@ -84,11 +84,15 @@ sum_without (suc n) A f k h a = ⊎_elim at_n (λ l. under l (sum_without n A f 
         let same : without A k n ≡ A n = rw (refuted→false (eqb k n) (λ t. omega (arith, l, eqb→eq k n t))) refl in
         rw same (omega (arith, below))
 
--- equal terms give equal sums
+-- equal members and equal terms give equal sums
+pub sum_same : (n : ℕ) (A B : ℕ → Bool) (f g : ℕ → ℕ) → ((j : ℕ) → j < n → A j ≡ B j) → ((j : ℕ) → j < n → f j ≡ g j) → sum n A f ≡ sum n B g
+unfolding sum
+sum_same zero A B f g v w = refl
+sum_same (suc n) A B f g v w =
+    rw (v n (le_refl (suc n)), w n (le_refl (suc n)), sum_same n A B f g (λ j l. v j (le_step l)) (λ j l. w j (le_step l))) refl
+
 pub sum_cong : (n : ℕ) (A : ℕ → Bool) (f g : ℕ → ℕ) → ((j : ℕ) → j < n → f j ≡ g j) → sum n A f ≡ sum n A g
-sum_cong n A f g h =
-    le_antisymm (sum_mono n A A f g (λ j l t. t) (λ j l t. le_of_eq (h j l)))
-    (sum_mono n A A g f (λ j l t. t) (λ j l t. le_of_eq (sym (h j l))))
+sum_cong n A f g = sum_same n A A f g (λ j l. refl)
 
 -- terms of at most b each
 pub sum-le : (n : ℕ) (A : ℕ → Bool) (f : ℕ → ℕ) (b : ℕ) → ((j : ℕ) → j < n → T (A j) → f j ≤ b) → sum n A f ≤ n * b
@@ -111,3 +115,22 @@ sum_scaled (suc n) A f g h v k e =
     let below = sum_scaled n A f g h v k (λ j l. e j (le_step l)) in
     let here = term_scaled (A n) (f n) (g n) (h n) v k (e n (le_refl (suc n))) in
     simp mul-add (omega (arith, below, here))
+
+-- ---- sets that share no member
+
+term_apart : (a b c : Bool) (x : ℕ) → (T a → T c) → (T b → T c) → (T a → T b → ⊥) → pick a x 0 + pick b x 0 ≤ pick c x 0
+term_apart true true c x f g h = absurd (h tt tt)
+term_apart true false c x f g h = rw (T→true c (f tt)) (omega arith)
+term_apart false true c x f g h = rw (T→true c (g tt)) (omega arith)
+term_apart false false c x f g h = omega arith
+
+-- two parts of a set that share no member come to no more than it
+pub sum_apart : (n : ℕ) (A B C : ℕ → Bool) (f : ℕ → ℕ) → Subset n A C → Subset n B C → ((j : ℕ) → j < n → T (A j) → T (B j) → ⊥)
+    → sum n A f + sum n B f ≤ sum n C f
+unfolding sum
+sum_apart zero A B C f v w apart = omega arith
+sum_apart (suc n) A B C f v w apart =
+    let below = sum_apart n A B C f (λ j l. v j (le_step l)) (λ j l. w j (le_step l)) (λ j l. apart j (le_step l)) in
+    let last = le_refl (suc n) in
+    let here = term_apart (A n) (B n) (C n) (f n) (v n last) (w n last) (apart n last) in
+    omega (arith, below, here)

@@ -12,9 +12,8 @@ returns-in_default-clause-says c = trying_decides _ _ _ (returns-in_default-clau
 
 pub returns-clause-value : goal.returns-clause-value
 returns-clause-value c =
-    let s = c.in-Some.system in
     let e = c.in-Some.ensures in
-    trying_made c.args.set.now c.args.active.now (sym e.made) (lists_of s) s.sound e.lists _ c.trial.ensures.decides
+    trying_made c.args.set.now c.args.active.now (sym e.made) (lists_of c.in-Some.system) e.lists _ c.is_feasible.ensures
 
 pub returns-clause-says : goal.returns-clause-says
 returns-clause-says c = trying_decides _ _ _ (returns-clause-value c)

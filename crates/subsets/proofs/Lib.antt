@@ -1,0 +1,3 @@
+pub mod MarksLaws
+pub mod SubsetsLaws
+pub mod FoundLaws

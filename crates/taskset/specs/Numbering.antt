@@ -1,7 +1,7 @@
--- Document 01's numbers of the refusals. Assumes nothing.
+-- The documents' numbers of the refusals. Assumes nothing.
 use Rattle.std.specs.Prelude.{ℕ}
 use Rattle.taskset.specs.declared.refusals.Refusal.{Refusal}
-use Rattle.taskset.specs.declared.refusals.Refusal.TheVariants.{Period, Execution, Deadline, Jitter, Section, SameTask, BadLine, LongText, ShortBuffer, FullTasks, NoSuchTask, FullRules, NoTasks, NotMade, Weight}
+use Rattle.taskset.specs.declared.refusals.Refusal.TheVariants.{Period, Execution, Deadline, Jitter, Section, SameTask, BadLine, LongText, ShortBuffer, FullTasks, NoSuchTask, FullRules, NoTasks, NotMade, Weight, Budget}
 
 abbrev pub number : Refusal → ℕ
 number Period = 1
@@ -19,3 +19,4 @@ number FullRules = 12
 number NoTasks = 13
 number NotMade = 14
 number Weight = 15
+number Budget = 16

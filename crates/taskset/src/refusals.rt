@@ -1,4 +1,4 @@
-// Why a call is refused, with document 01's numbers.
+// Why a call is refused, with the documents' numbers.
 
 ghost use Rattle.std.specs.Prelude.{◌≡◌};
 ghost use Rattle.taskset.specs.Numbering.{number};
@@ -26,8 +26,9 @@ pub enum Refusal {
     // A set without tasks, and one that no list of calls makes.
     NoTasks = 13,
     NotMade = 14,
-    // A rule's weight is out of its range.
+    // A rule's weight is out of its range, and so is a budget.
     Weight = 15,
+    Budget = 16,
 }
 
 impl From<Refusal> for u64 {

@@ -1,0 +1,16 @@
+pub mod Claims
+pub mod TurnLaws
+pub mod EachTurn
+pub mod RestoringLaws
+pub mod ListingSteps
+pub mod ListingLaws
+pub mod FrontierSteps
+pub mod FrontierLaws
+pub mod ExploringLaws
+pub mod ExploringSteps
+pub mod DroppedSteps
+pub mod ExploredSteps
+pub mod Relaxations
+pub mod TableSteps
+pub mod TableLaws
+pub mod RelaxingLaws

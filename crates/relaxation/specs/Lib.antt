@@ -1,0 +1,9 @@
+pub mod Weights
+pub mod Turns
+pub mod Restoring
+pub mod Listing
+pub mod Frontier
+pub mod Exploring
+pub mod Table
+pub mod Relaxing
+pub mod Relaxes

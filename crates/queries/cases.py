@@ -4,25 +4,40 @@
     cases.py PATH/enumerate.py STAGE SEED COUNT DIR
 
 STAGE is the letter of the last request of document 02 that holds, here f. DIR/stdin gets, joined by form feeds
-(byte 12), questions of two kinds, of each COUNT drawn ones and then those below. The first line is the question:
-`trial` and the marks, or `longest` and a place. Then comes the text that it is asked of. DIR/stdout gets a line
-for each answer, which is the enumerating program's own: of a trial `yes` where one of the orders that meet every
-deadline keeps the marked rules. The questions below also carry the answer that is known of them, and the two must
-agree. The stored files have SEED 1 and COUNT 600.
+(byte 12), questions of three kinds, of each the drawn ones and then those below; COUNT are drawn of the first two,
+a third as many of the third. The first line is the question: `trial` and the marks, `longest` and a place, or `drop`
+and a budget. Then comes the text that it is asked of. DIR/stdout gets the answers. Those to the first two are the
+enumerating program's own, a line for each: of a trial `yes` where one of the orders that meet every deadline keeps
+the marked rules. The questions below also carry the answer that is known of them, and the two must agree. What to
+drop is left free: there the answers are those of `queries`, built before by `rt run`, and the enumerating program
+says what is wrong with each. Of the questions below the least weight is known too, or the whole answer. Anything
+wrong ends the script. The stored files have SEED 1 and COUNT 600.
 """
 import itertools
 import json
 import os
 import random
+import re
 import subprocess
 import sys
 import tempfile
+from unittest import mock
 
 sys.dont_write_bytecode = True
 sys.path.insert(0, os.path.join(os.path.dirname(os.path.abspath(__file__)), "..", "vectors"))
 from make import A, B, EASY, GOOD, RESOURCES, bad, line_of, load, on, r, store, t  # noqa: E402
 
+HERE = os.path.dirname(os.path.abspath(__file__))
+QUERIES = os.path.join(HERE, "out", "queries")
 RULES = 128  # places for rules, used or not
+K4 = A.replace(b"12\t12", b"12\t9")
+SHORT, TABLE = 12, 4096  # so many rules, with so great a budget, leave no way but the cheapest
+BUDGETS = (1, 4095, 4096, 10000)
+
+
+def example(name):
+    with open(os.path.join(HERE, "..", "..", "examples", name + ".txt"), "rb") as text:
+        return text.read()
 
 
 def asked(enumerating, stage, marks, text):
@@ -47,7 +62,7 @@ def made_trials():
     """Marks, a text, and the answer."""
     yield "", b"", "yes\n"  # no tasks: the one order is the empty one
     yield "1" * RULES, b"", "yes\n"
-    yield "", A.replace(b"12\t12", b"12\t9"), "no\n"  # K4: no order even without rules
+    yield "", K4, "no\n"  # no order even without rules
     yield "1" * RULES, A.replace(b"12\t12", b"12\t10"), "yes\n"  # K3
     k6 = A + r(1, 0) + r(2, 0) + r(2, 1)  # rule 1 is a core, and so is rule 2
     k7 = A + r(0, 1) + r(1, 0)
@@ -124,7 +139,7 @@ def made_longest():
     for place in (1, 2):
         yield place, A.replace(b"1\t4\t4", b"4\t4\t4"), longest(place, 0)
     for place, figure in ((0, 0), (1, 1), (2, 2)):
-        yield place, A.replace(b"12\t12", b"12\t9"), longest(place, figure)
+        yield place, K4, longest(place, figure)
     # sheet B with rules, a circle of rules, and rules in every place
     for place, figure in ((0, 2), (1, 2), (2, 6)):
         yield place, B + r(1, 0), longest(place, figure)
@@ -147,10 +162,8 @@ def made_longest():
     # the examples
     for name, figures in (("carton-folder", (77, 130, 137, 0)), ("door-drive", (92, 280, 250, 212, 3270, 31990)),
                           ("packing-line", (0, 0, 0, 50, 0, 0, 0))):
-        with open(os.path.join(os.path.dirname(os.path.abspath(__file__)), "..", "..", "examples", name + ".txt"), "rb") as text:
-            example = text.read()
         for place, figure in enumerate(figures):
-            yield place, example, longest(place, figure)
+            yield place, example(name), longest(place, figure)
     # refused texts, also where the place has no task
     for place in (0, 1, 64):
         for weight in (0, 1001):
@@ -162,6 +175,149 @@ def made_longest():
         yield place, A + r(1, 3), bad(4, 11)
 
 
+def drawn_drops(enumerating, stage, rng, count):
+    """Those of at most 1,000 bytes."""
+    while count:
+        (_, budget), text = enumerating.draw_drop(rng, stage)
+        if len(text) <= 1000:
+            yield int(budget), text
+            count -= 1
+
+
+def about(rules, budgets=BUDGETS):
+    """Budgets on both sides of what so many rules give a claim on."""
+    return sorted({*budgets, *(budget for budget in (rules, rules + 1, 2 * rules, 2 * rules + 1) if budget)})
+
+
+def ring(size):
+    """A circle of rules, the cheapest of which has weight 1; and what each way out drops."""
+    return EASY * size + b"".join(r(k, (k + 1) % size, 1 + (5 * k + 3) % size) for k in range(size)), 1, [{k} for k in range(size)]
+
+
+def circles():
+    """64 tasks that any order serves and 128 rules; the least weight; and what each way out drops, of each of five circles a rule
+    with its copies."""
+    rules, rings, least, first = [], [], 0, 0
+    for size in range(2, 7):
+        ring_rules = []
+        for k in range(size):
+            copies = [r(first + k, first + (k + 1) % size, 10 * size - k)] * (1 + k % 2)
+            ring_rules.append(frozenset(range(len(rules), len(rules) + len(copies))))
+            rules += copies
+        rings.append(ring_rules)
+        least += min((10 * size - k) * (1 + k % 2) for k in range(size))
+        first += size
+    for k in range(RULES - len(rules)):  # upward through the other tasks
+        u = first + k % 40
+        rules.append(r(u, u + 1 + k % 4, 1 + k % 9))
+    return EASY * 64 + b"".join(rules), least, [frozenset().union(*way) for way in itertools.product(*rings)]
+
+
+def made_drops():
+    """A budget, a text, and the whole answer or the least weight of what can be dropped; for more than 8 tasks, what each way out
+    drops."""
+    # no tasks, a budget out of range, and refused texts first
+    for budget in (0, 1, 10000, 10001):
+        yield budget, b"", bad(0, 13), None
+        yield budget, GOOD[:-1], bad(1, 7), None
+        yield budget, A + r(1, 3), bad(4, 11), None
+        yield budget, A + r(1, 0) + r(0, 1, 1001), bad(5, 15), None
+    for budget in (0, 10001, 65537, 9999999):
+        for text in (GOOD, K4, A + r(0, 1) + r(1, 0)):
+            yield budget, text, bad(0, 16), None
+    # no order even without rules
+    for budget in BUDGETS:
+        for text in (K4, K4 + r(0, 1), K4 + r(0, 1) + r(1, 0), t(2, 4, 1, 0), EASY + t(2, 4, 1, 0) + r(0, 1) * 13, example("carton-folder")):
+            yield budget, text, "none\t1\n", None
+    # all rules can be had
+    for budget in BUDGETS:
+        yield budget, GOOD, 0, None
+        yield budget, A, 0, None
+    for text, rules in ((A + r(1, 0, 1000), 1), (B + r(1, 0, 7), 1), (A + r(1, 0) * 2, 2), (example("door-drive"), 2),
+                        (EASY * 8 + b"".join(r(k, k + 1, 100) for k in range(7)), 7)):
+        for budget in about(rules, (1, 4096)):
+            yield budget, text, 0, None
+    yield 10000, EASY * 2 + r(0, 1) * RULES, 0, None
+    # K6, K7 and K8, either of two rules being the cheaper one
+    for one, other in ((1, 1), (1, 2), (2, 1), (1, 1000), (1000, 999)):
+        for budget in about(2, (1, 4095, 4096)):
+            yield budget, A + r(0, 1, one) + r(1, 0, other), min(one, other), None
+            yield budget, B + r(1, 0, one) + r(2, 0, other), min(one, other), None
+        for budget in about(3, (1, 4095, 4096)):
+            yield budget, A + r(1, 0, 5) + r(2, 0, one) + r(2, 1, other), one + other, None
+    # equal rules: both go, or the one against them; and a rule that alone can't be had, twice
+    for weight in (5, 9, 10, 11):
+        for budget in about(3, (1, 4095, 4096)):
+            yield budget, A + r(0, 1, 4) + r(1, 0, weight) + r(0, 1, 6), min(10, weight), None
+    for budget in about(2):
+        yield budget, A + r(2, 1, 3) + r(2, 1, 4), 7, None
+    # 12 rules with several cores: four circles of two tasks; one of two and two of three; six rules against six
+    pairs = EASY * 8 + b"".join(r(2 * k, 2 * k + 1, 3 + k) + r(2 * k + 1, 2 * k, 5 - k) + r(k, k + 2, 9) for k in range(4))
+    several = (EASY * 8 + r(0, 1, 5) + r(1, 0, 6) + r(2, 3, 9) + r(3, 4, 8) + r(4, 2, 7) + r(5, 6, 4) + r(6, 7, 3) + r(7, 5, 2)
+               + r(0, 2) + r(0, 5) + r(1, 3) + r(2, 5))
+    against = EASY * 2 + r(0, 1, 10) * 6 + r(1, 0, 9) * 6
+    for budget in about(12, (4095, 4096, 10000)):
+        yield budget, pairs, 3 + 4 + 3 + 2, None
+        yield budget, several, 5 + 7 + 2, None
+        yield budget, against, 54, None
+    # 13 rules, one more than are solved whole
+    for budget in about(13, (4096, 10000)):
+        yield budget, several + r(7, 0, 1), 5 + 7 + 2 + 1, None
+        yield budget, against + r(0, 1, 1), 54, None
+    # circles of more rules than a short list has, and of fewer
+    for size in (9, 12, 13):
+        for budget in about(size, (1, 4096, 10000)):
+            yield (budget, *ring(size))
+    # 64 tasks; and rules in every place: one against all others, half against half, and five circles
+    for budget in (65, 10000):
+        yield (budget, *ring(64))
+    for budget in (128, 129, 10000):
+        yield budget, EASY * 2 + r(0, 1) * (RULES - 1) + r(1, 0, 100), 100, None
+    for budget in (1, 10000):
+        yield budget, EASY * 2 + r(0, 1) * (RULES - 1) + r(1, 0, 200), RULES - 1, None
+        yield budget, EASY * 2 + (r(0, 1) + r(1, 0)) * (RULES // 2), RULES // 2, None
+    for budget in (129, 10000):
+        yield (budget, *circles())
+    # an example with a core
+    for budget in about(4):
+        yield budget, example("packing-line"), 10, None
+
+
+def piece(question, text):
+    return question.encode() + b"\n" + text
+
+
+def told(questions):
+    """What the built program answers to each of the `drop` questions, in one run."""
+    given = subprocess.run([QUERIES], input=b"\f".join(questions), capture_output=True, check=True).stdout.decode("latin-1")
+    answers = re.findall(r"^(?:bad|none|drop)\t.*\n(?:(?:rule\t|core\t|\d).*\n)*", given, re.M)
+    if len(answers) != len(questions) or "".join(answers) != given:
+        sys.exit("cases.py: %d questions have %d answers" % (len(questions), len(answers)))
+    return answers
+
+
+def wrong_drop(enumerating, stage, budget, text, given, ways=None):
+    """What is wrong with an answer. `ways` stands for what orders break, where there are too many to write out."""
+    if ways is None:
+        return enumerating.check_drop(text, stage, budget, given)
+    with mock.patch.object(enumerating, "all_broken", lambda tasks, rules: ways):
+        return enumerating.check_drop(text, stage, budget, given)
+
+
+def unlike(budget, text, given, want):
+    """How an answer differs from what is known: all of it, or the least weight of what can be dropped."""
+    if isinstance(want, str):
+        return [] if given == want else ["it must be %r" % want]
+    word, *numbers = given.partition("\n")[0].split("\t")
+    if word != "drop":
+        return ["rules can be dropped"]
+    weight, floor = map(int, numbers[:2])
+    rules = text.count(b"\nr")
+    exact = (rules <= SHORT and budget >= TABLE) or (want == 0 and budget > rules)
+    good = weight == floor == want if exact else floor <= want <= weight
+    return [] if good else ["the least weight is %d" % want]
+
+
 def main(program, stage, seed, count, room):
     enumerating = load(program)
     cases = []
@@ -169,10 +325,13 @@ def main(program, stage, seed, count, room):
     def take(question, text, answer):
         cases.append((question, text, answer))
 
-    def known(question, text, got, want):
-        if got != want or b"\f" in text:
-            sys.exit("cases.py: %s of %r\nis answered by %r, and not %r" % (question, text[:200], got, want))
+    def must(good, question, text, got, why):
+        if not good or b"\f" in text:
+            sys.exit("cases.py: %s of %r\nis answered by %r, but %s" % (question, text[:200], got, why))
         take(question, text, got)
+
+    def known(question, text, got, want):
+        must(got == want, question, text, got, "it is %r" % want)
 
     for marks, text in drawn_trials(enumerating, stage, random.Random(int(seed)), int(count)):
         take("trial\t" + marks, text, asked(enumerating, stage, marks, text))
@@ -183,8 +342,17 @@ def main(program, stage, seed, count, room):
     for place, text, want in made_longest():
         question = ("longest", str(place))
         known("\t".join(question), text, enumerating.answer(text, stage, question), want)
-    store(room, [question.encode() + b"\n" + text for question, text, _ in cases], [answer for _, _, answer in cases])
-    print("%d cases, of which %d are drawn" % (len(cases), 2 * int(count)))
+    drawn, made = list(drawn_drops(enumerating, stage, random.Random(int(seed)), int(count) // 3)), list(made_drops())
+    drops = [("drop\t%d" % budget, text) for budget, text, *_ in drawn + made]
+    answers = told([piece(*drop) for drop in drops])
+    for (budget, text), drop, got in zip(drawn, drops, answers):
+        wrong = wrong_drop(enumerating, stage, budget, text, got)
+        must(not wrong, *drop, got, wrong)
+    for (budget, text, want, ways), drop, got in zip(made, drops[len(drawn):], answers[len(drawn):]):
+        wrong = unlike(budget, text, got, want) + wrong_drop(enumerating, stage, budget, text, got, ways)
+        must(not wrong, *drop, got, wrong)
+    store(room, [piece(question, text) for question, text, _ in cases], [answer for _, _, answer in cases])
+    print("%d cases, of which %d are drawn" % (len(cases), 2 * int(count) + len(drawn)))
 
 
 if __name__ == "__main__":

@@ -1,16 +1,17 @@
 // Stored cases on standard input, parted by form feeds: a line with a question, and the text that it is asked of. Each is
-// answered by a line.
+// answered by a line, and rules to drop by a line and those of the rules and of the cores.
 
 #![tactic(auto)]
 
 use feasibility::try_rules;
 use lines::number_from;
 use lines::reader::Reader;
+use relaxation::{Relaxed, relax};
 use sensitivity::longest_execution;
 use std::io;
 use std::io::Read;
-use taskset::{MAX_RULES, Refusal, TaskIndex, TaskSet};
-use text::{RefusedAt, read};
+use taskset::{MAX_RULES, Refusal, Rule, TaskIndex, TaskSet};
+use text::{Reading, RefusedAt, read};
 
 const FORM_FEED: u8 = 12;
 
@@ -18,6 +19,7 @@ const FORM_FEED: u8 = 12;
 enum Reply {
     Trial(bool),
     Longest(u64, Option<u64>),
+    Drop(Relaxed),
     NoQuestion,
 }
 
@@ -30,24 +32,56 @@ fn try_digits(set: &TaskSet, digits: &[u8]) -> Result<bool, Refusal> {
     try_rules(set, &active)
 }
 
-// The answer to a question. `trial` and digits ask for a trial, `longest` and a place how long the task there may run.
-fn answer(question: &[u8], text: &[u8]) -> Result<Reply, RefusedAt> {
-    let reading = read(text);
+// The number that stands alone behind this word.
+fn number_after(question: &[u8], word: &[u8]) -> Option<u64> {
+    let digits = question.strip_prefix(word)?;
+    let number = number_from(digits, 0)?;
+    (digits.len() <= number.end).then_some(number.value)
+}
+
+// The answer to a question. `trial` and digits ask for a trial, `longest` and a place how long the task there may run, `drop` and a
+// budget for the cheapest rules to give up.
+fn answer(question: &[u8], reading: &Reading) -> Result<Reply, RefusedAt> {
     reading.answer?;
     if let Some(digits) = question.strip_prefix(b"trial\t") {
         return Ok(Reply::Trial(try_digits(&reading.set, digits)?));
     }
-    let Some(digits) = question.strip_prefix(b"longest\t") else {
-        return Ok(Reply::NoQuestion);
-    };
-    let Some(place) = number_from(digits, 0) else {
-        return Ok(Reply::NoQuestion);
-    };
-    if place.end < digits.len() {
-        return Ok(Reply::NoQuestion);
+    if let Some(place) = number_after(question, b"longest\t") {
+        let longest = longest_execution(&reading.set, TaskIndex(place as usize))?;
+        return Ok(Reply::Longest(place, longest));
     }
-    let longest = longest_execution(&reading.set, TaskIndex(place.value as usize))?;
-    Ok(Reply::Longest(place.value, longest))
+    if let Some(budget) = number_after(question, b"drop\t") {
+        return Ok(Reply::Drop(relax(&reading.set, budget)?));
+    }
+    Ok(Reply::NoQuestion)
+}
+
+// What can be given up: a line with the weight, the floor and the count, the dropped rules, and the cores with their rules.
+fn print_relaxed(rt: &impl Print, rules: &[Rule; MAX_RULES], relaxed: &Relaxed) -> io::Result<()> {
+    let Some(relaxation) = &relaxed.relaxation else {
+        return println!(rt; "none\t{}", relaxed.count);
+    };
+    println!(rt;
+        "drop\t{}\t{}\t{}",
+        relaxation.weight, relaxation.floor, relaxed.count
+    )?;
+    for (k, rule) in rules.iter().enumerate() {
+        if relaxation.dropped[k] {
+            let weight = rule.weight;
+            println!(rt; "rule\t{k}\t{}\t{}\t{weight}", rule.higher.0, rule.lower.0)?;
+        }
+    }
+    for number in 1..=relaxation.ncores {
+        let places = relaxation.cores.iter();
+        let size = places.filter(|core| **core == number).count();
+        println!(rt; "core\t{size}")?;
+        for (k, rule) in rules.iter().enumerate() {
+            if relaxation.cores[k] == number {
+                println!(rt; "{k}\t{}\t{}", rule.higher.0, rule.lower.0)?;
+            }
+        }
+    }
+    Ok(())
 }
 
 // Answers each case.
@@ -57,13 +91,15 @@ fn main(rt: HostRuntime) -> io::Result<()> {
     for case in cases.split(|byte| *byte == FORM_FEED) {
         let mut reader = Reader::stand(case, 0);
         let question = reader.next_line().unwrap_or(&[]);
-        match answer(question, &case[reader.at..]) {
+        let reading = read(&case[reader.at..]);
+        match answer(question, &reading) {
             Ok(Reply::Trial(true)) => println!(rt; "yes")?,
             Ok(Reply::Trial(false)) => println!(rt; "no")?,
             Ok(Reply::Longest(place, Some(longest))) => println!(rt;
                 "longest\t{place}\t{longest}"
             )?,
             Ok(Reply::Longest(_, None)) => println!(rt; "none")?,
+            Ok(Reply::Drop(relaxed)) => print_relaxed(&rt, &reading.set.rules, &relaxed)?,
             Ok(Reply::NoQuestion) => println!(rt; "no question")?,
             Err(at) => println!(rt; "bad\t{}\t{}", at.line, u64::from(at.refusal))?,
         }

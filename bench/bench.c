@@ -1,7 +1,7 @@
 /*
  * bench.c: times orders_solve beside plain_solve on task sets of several kinds,
- * and how long a task may run beside trials, and prints the tables in Markdown.
- * With the word `check` it only compares.
+ * and how long a task may run and which rules to give up beside trials, and
+ * prints the tables in Markdown. With the word `check` it only compares.
  *
  * A set is timed only after both calls gave the same number and left the same
  * bytes. The calls take turns in batches, and the least time of a call counts.
@@ -11,7 +11,7 @@
  * The program `queries` is asked for the calls which the archive lacks; its
  * processor time counts, less what it takes to read the same texts. An answer
  * is held against what orders_solve says of the set with that execution time
- * and with the next one.
+ * and with the next one, or of the set with fewer rules.
  */
 #define _DEFAULT_SOURCE
 #include <fcntl.h>
@@ -64,10 +64,15 @@ static void task(struct text *t, unsigned execution, unsigned period, unsigned d
     sharing_task(t, execution, period, deadline, jitter, 0, 0, 0);
 }
 
+static void weighed_rule(struct text *t, unsigned higher, unsigned lower, unsigned weight)
+{
+    t->len += (size_t)sprintf((char *)t->bytes + t->len, "r\t%u\t%u\t%u\n", higher, lower, weight);
+}
+
 /* A rule of weight 1. */
 static void rule(struct text *t, unsigned higher, unsigned lower)
 {
-    t->len += (size_t)sprintf((char *)t->bytes + t->len, "r\t%u\t%u\t1\n", higher, lower);
+    weighed_rule(t, higher, lower, 1);
 }
 
 /* Rules along a chain of n tasks: each above the next, then each above the next but one, and so on. */
@@ -264,6 +269,51 @@ static void hostile_late(struct text *t, unsigned n, unsigned m)
         task(t, 1, SECOND, 1, 0);
 }
 
+/* Loose tasks with rules in circles of so many. */
+static void circles(struct text *t, unsigned n, unsigned size, unsigned m)
+{
+    loose_tasks(t, n);
+    for (unsigned k = 0; k < m; k += size)
+        circle(t, k, size, size);
+}
+
+static void pairs(struct text *t, unsigned n, unsigned m)
+{
+    circles(t, n, 2, m);
+}
+
+static void threes(struct text *t, unsigned n, unsigned m)
+{
+    circles(t, n, 3, m);
+}
+
+static void one_circle(struct text *t, unsigned n, unsigned m)
+{
+    circles(t, n, m, m);
+}
+
+/* m rules that set as many tasks above the first one, which meets its deadline below any seven of them, and no more. */
+static void seven(struct text *t, unsigned n, unsigned m)
+{
+    task(t, 1000, SECOND, 8000, 0);
+    for (unsigned i = 1; i < n; i++)
+        task(t, 1000, SECOND, SECOND, 0);
+    for (unsigned k = 0; k < m; k++)
+        rule(t, 1 + k, 0);
+}
+
+/* The same below those six tasks and small ones, of which each is late until its own level is reached. */
+static void hostile_seven(struct text *t, unsigned n, unsigned m)
+{
+    nearly_full(t);
+    task(t, 1, SECOND, under_six(8 + n - 7 - m), 0);
+    small_tasks(t, m);
+    for (unsigned i = 7 + m; i < n; i++)
+        task(t, 1, SECOND, under_six(n - i), 0);
+    for (unsigned k = 0; k < m; k++)
+        rule(t, 7 + k, 6);
+}
+
 static const struct family families[] = {
     { "an order, no rules", rising, FULL, 0 },
     { "an order, 128 rules", rising, FULL, RULES },
@@ -420,9 +470,12 @@ static double print_table(const char *title, const struct family *f, size_t coun
 /* ---- questions ---- */
 
 /* So many runs are made of the program, and in each so many cases are asked: trials, or how long a task may run. */
-enum { RUNS = 5, TRIALS = 200, LENGTHS = 10 };
+enum { RUNS = 5, TRIALS = 200, LENGTHS = 10, MOST_CASES = 4096 };
 
-static const char *const program = "crates/queries/out/queries";
+/* Where cases are counted out, a run takes at least so long, in seconds; and after so long no more runs are made. */
+static const double ENOUGH = 0.015, LONG = 3;
+
+static const char *const program = "crates/queries/out/queries", *const asking = "target/bench.in", *const answers = "target/bench.out";
 
 static double of_children(void)
 {
@@ -439,44 +492,60 @@ static void need(int holds, const char *what)
     exit(1);
 }
 
-/* The least time of some runs in which a question is asked so often, and the first line that is answered. */
-static double ask(const struct text *t, const char *question, unsigned cases, unsigned runs, char *answer, size_t room)
+/* Writes a case behind the others. */
+static void write_case(FILE *f, const char *question, const struct text *t)
 {
-    static const char *const in = "target/bench.in", *const out = "target/bench.out";
-    FILE *f = fopen(in, "wb");
-    need(f != NULL, "write the cases");
-    for (unsigned k = 0; k < cases; k++) {
-        fprintf(f, "%s%s\n", k ? "\f" : "", question);
-        fwrite(t->bytes, 1, t->len, f);
-    }
-    need(fclose(f) == 0, "write the cases");
-    double least = 1e9;
-    for (unsigned k = 0; k < runs; k++) {
-        double before = of_children();
-        pid_t child = fork();
-        need(child >= 0, "start the program");
-        if (child == 0) {
-            if (dup2(open(in, O_RDONLY), 0) == 0 && dup2(open(out, O_WRONLY | O_CREAT | O_TRUNC, 0600), 1) == 1)
-                execl(program, program, (char *)0);
-            _exit(2);
-        }
-        int status;
-        need(waitpid(child, &status, 0) == child && status == 0, "run the program");
-        double took = of_children() - before;
-        if (took < least)
-            least = took;
-    }
-    f = fopen(out, "rb");
-    need(f != NULL && fgets(answer, (int)room, f) != NULL, "read the answers");
-    fclose(f);
-    return least;
+    fprintf(f, "%s%s\n", ftell(f) > 0 ? "\f" : "", question);
+    fwrite(t->bytes, 1, t->len, f);
 }
 
-/* What one call takes: the time of a run, less that of reading the texts alone. */
+/* The time of a run of the program on the cases that are written. */
+static double run_program(void)
+{
+    double before = of_children();
+    pid_t child = fork();
+    need(child >= 0, "start the program");
+    if (child == 0) {
+        if (dup2(open(asking, O_RDONLY), 0) == 0 && dup2(open(answers, O_WRONLY | O_CREAT | O_TRUNC, 0600), 1) == 1)
+            execl(program, program, (char *)0);
+        _exit(2);
+    }
+    int status;
+    need(waitpid(child, &status, 0) == child && status == 0, "run the program");
+    return of_children() - before;
+}
+
+/* The time of a run in which a question is asked so often, and the first line that is answered. */
+static double ask(const struct text *t, const char *question, unsigned cases, char *answer, size_t room)
+{
+    FILE *f = fopen(asking, "wb");
+    need(f != NULL, "write the cases");
+    for (unsigned k = 0; k < cases; k++)
+        write_case(f, question, t);
+    need(fclose(f) == 0, "write the cases");
+    double took = run_program();
+    f = fopen(answers, "rb");
+    need(f != NULL && fgets(answer, (int)room, f) != NULL, "read the answers");
+    fclose(f);
+    return took;
+}
+
+static double lesser(double a, double b)
+{
+    return a < b ? a : b;
+}
+
+/* What one call takes: the least time of a run, less that of reading the texts alone. The two take turns. */
 static double asked(const struct text *t, const char *question, unsigned cases, char *answer, size_t room)
 {
-    double reading = ask(t, "", cases, RUNS, answer, room);
-    return (ask(t, question, cases, RUNS, answer, room) - reading) / cases;
+    double reading = 1e9, least = 1e9, spent = 0;
+    for (unsigned k = 0; k < RUNS && spent < LONG; k++) {
+        reading = lesser(reading, ask(t, "", cases, answer, room));
+        double took = ask(t, question, cases, answer, room);
+        least = lesser(least, took);
+        spent += took;
+    }
+    return (least - reading) / cases;
 }
 
 /* The row at a place: C, T, D, J and the sections, and where its line begins. */
@@ -585,6 +654,543 @@ static void print_lengths(const struct family *f, size_t count)
     printf("\nOn the sets without an order the dearest place takes %.0f µs.\n", 1e6 * others);
 }
 
+/* ---- drawn sets ---- */
+
+/* The greatest weight and budget; and rules of a short list, and how many sets of them there are. */
+enum { MAX_WEIGHT = 1000, MAX_BUDGET = 10000, SHORT = 12, SUBSETS = 4096 };
+
+/* The rules of a set: for each the higher task, the lower one and the weight. */
+static unsigned rules_of(const struct text *t, unsigned (*rules)[3])
+{
+    unsigned n = 0;
+    for (const char *line = (const char *)t->bytes; *line; line = strchr(line, '\n') + 1)
+        n += sscanf(line, "r\t%u\t%u\t%u", &rules[n][0], &rules[n][1], &rules[n][2]) == 3;
+    return n;
+}
+
+/* The text of a set with the marked ones of its rules. */
+static void with_rules(const struct text *t, const char *marks, struct text *other)
+{
+    const char *end = (const char *)t->bytes + t->len;
+    unsigned place = 0;
+    other->len = 0;
+    for (const char *line = (const char *)t->bytes, *next; line < end; line = next) {
+        next = (const char *)memchr(line, '\n', (size_t)(end - line)) + 1;
+        if (*line == 't' || marks[place++]) {
+            memcpy(other->bytes + other->len, line, (size_t)(next - line));
+            other->len += (size_t)(next - line);
+        }
+    }
+}
+
+/* Does some order keep the marked rules? By the C call. */
+static int ordered(const struct text *t, const char *marks)
+{
+    static struct text other;
+    static uint8_t out[ORDERS_LISTING_MAX];
+    with_rules(t, marks, &other);
+    need(orders_solve(other.bytes, other.len, out, sizeof out) >= ORDERS_LISTED, "list a set with fewer rules");
+    return memcmp(out, "order", 5) == 0;
+}
+
+struct range { unsigned low, high; };
+
+/*
+ * A kind of drawn sets: how many, with so many tasks and rules. Of a hundred rules so many stand against the deadlines, and so
+ * many circles are drawn; so many rules go when each in turn is kept if it can be.
+ */
+struct kind {
+    const char *name;
+    unsigned sets;
+    struct range tasks, rules, against, circles, dropped;
+};
+
+/* A set that is being drawn: its text, how many rules it has and gets, its tasks by rising deadline, and which rules it has. */
+struct drawing {
+    struct text text;
+    unsigned tasks, rules, wanted, deadline[FULL], rising[FULL];
+    char has[FULL][FULL];
+};
+
+/* Where the generator stands, which gives everyone the same. */
+static uint64_t state;
+
+/* A number from the one to the other. */
+static unsigned draw(unsigned low, unsigned high)
+{
+    state = state * 6364136223846793005u + 1442695040888963407u;
+    return low + (unsigned)((state >> 33) % (high - low + 1));
+}
+
+static unsigned draw_in(struct range r)
+{
+    return draw(r.low, r.high);
+}
+
+/* Tasks with a load of 0.5 to 0.95 together, and deadlines from 0.4 of the period on. In every other set some have jitter. */
+static void draw_tasks(struct drawing *d)
+{
+    static const unsigned scales[] = { 1, 10, 100 };
+    unsigned parts[FULL], whole = 0, load = draw(50, 95), jittery = 4 * draw(0, 1);
+    for (unsigned i = 0; i < d->tasks; i++)
+        whole += parts[i] = draw(1, 100) * draw(1, 100);
+    for (unsigned i = 0; i < d->tasks; i++) {
+        unsigned scale = scales[draw(0, 2)], period = scale * draw(1000, 10000), deadline = period / 100 * draw(40, 100), at = i;
+        unsigned execution = 1 + (unsigned)((uint64_t)period * load * parts[i] / (100 * (uint64_t)whole));
+        task(&d->text, execution, period, deadline, draw(1, 10) <= jittery ? period / 1000 * draw(0, 100) : 0);
+        for (; at > 0 && d->deadline[d->rising[at - 1]] > deadline; at--)
+            d->rising[at] = d->rising[at - 1];
+        d->rising[at] = i;
+        d->deadline[i] = deadline;
+    }
+}
+
+/* One more rule, unless the set has it. Of those that clash alone, one in ten is taken. */
+static void draw_rule(struct drawing *d, unsigned higher, unsigned lower)
+{
+    char alone[RULES] = "";
+    size_t before = d->text.len;
+    if (higher == lower || d->has[higher][lower] || d->rules == d->wanted)
+        return;
+    weighed_rule(&d->text, higher, lower, draw(1, MAX_WEIGHT));
+    alone[d->rules] = 1;
+    if (draw(1, 10) > 1 && !ordered(&d->text, alone)) {
+        d->text.len = before;
+        d->text.bytes[before] = 0;
+        return;
+    }
+    d->has[higher][lower] = 1;
+    d->rules++;
+}
+
+/* Rules in a circle of tasks with deadlines that lie near. */
+static void draw_circle(struct drawing *d)
+{
+    unsigned n = draw(2, 5), from = draw(0, d->tasks - 8), in[5];
+    for (unsigned k = 0; k < n; k++)
+        in[k] = d->rising[from + draw(0, 7)];
+    for (unsigned k = 0; k < n; k++)
+        draw_rule(d, in[k], in[(k + 1) % n]);
+}
+
+/* Rules until there are enough. Those against the deadlines are of tasks whose deadlines are not too far from each other. */
+static void draw_rules(struct drawing *d, const struct kind *kind)
+{
+    unsigned against = draw_in(kind->against), round = draw_in(kind->circles), reach = draw(3, 50);
+    for (unsigned tries = 0; d->rules < d->wanted && tries < 20 * RULES; tries++) {
+        unsigned a = draw(0, d->tasks - 1), b = draw(0, d->tasks - 1);
+        unsigned shorter = d->rising[a < b ? a : b], longer = d->rising[a < b ? b : a];
+        if (draw(1, 300) <= round)
+            draw_circle(d);
+        else if (draw(1, 100) > against)
+            draw_rule(d, shorter, longer);
+        else if (d->deadline[longer] / reach <= d->deadline[shorter])
+            draw_rule(d, longer, shorter);
+    }
+}
+
+/* How many rules go when each in turn is kept if it can be. */
+static unsigned rules_to_drop(const struct drawing *d)
+{
+    char kept[RULES] = "";
+    unsigned dropped = 0;
+    for (unsigned k = 0; k < d->rules; k++) {
+        kept[k] = 1;
+        kept[k] = (char)ordered(&d->text, kept);
+        dropped += !kept[k];
+    }
+    return dropped;
+}
+
+/* Draws once; is it a set of the kind? Its rules then go to `t`, each with a weight up to 1,000. */
+static int drawn(const struct kind *kind, struct text *t)
+{
+    static struct drawing d;
+    static const char none[RULES];
+    memset(&d, 0, sizeof d);
+    d.tasks = draw_in(kind->tasks);
+    d.wanted = draw_in(kind->rules);
+    if (d.tasks * (d.tasks - 1) < 4 * d.wanted)
+        return 0;
+    draw_tasks(&d);
+    if (!ordered(&d.text, none))
+        return 0;
+    draw_rules(&d, kind);
+    unsigned dropped = rules_to_drop(&d);
+    *t = d.text;
+    return d.rules == d.wanted && kind->dropped.low <= dropped && dropped <= kind->dropped.high;
+}
+
+/* The same set with weights up to `most`. */
+static void weigh(const struct text *t, unsigned most, struct text *other)
+{
+    unsigned rules[RULES][3], n = rules_of(t, rules);
+    char none[RULES] = "";
+    with_rules(t, none, other);
+    for (unsigned k = 0; k < n; k++)
+        weighed_rule(other, rules[k][0], rules[k][1], (rules[k][2] - 1) * most / MAX_WEIGHT + 1);
+    other->bytes[other->len] = 0;
+}
+
+/* ---- rules to give up ---- */
+
+/* What is told: the weight, the floor and the count, the rules that are kept, and by each rule the number of its core, from 1 on. */
+struct relaxed {
+    unsigned weight, floor, count, cores, core[RULES];
+    char kept[RULES];
+};
+
+/* Takes a line of an answer, of which so many rules of a core are still to come; does it stand in its place? */
+static int take_line(const char *line, unsigned (*rules)[3], unsigned n, struct relaxed *r, unsigned *left)
+{
+    unsigned k, higher, lower, weight;
+    if (*left == 0 && sscanf(line, "core\t%u\n", left) == 1) {
+        r->cores++;
+        return *left > 0;
+    }
+    int goes = sscanf(line, "rule\t%u\t%u\t%u\t%u\n", &k, &higher, &lower, &weight) == 4;
+    if (!goes && sscanf(line, "%u\t%u\t%u\n", &k, &higher, &lower) != 3)
+        return 0;
+    if (k >= n || higher != rules[k][0] || lower != rules[k][1])
+        return 0;
+    if (goes) {
+        int kept = r->kept[k];
+        r->kept[k] = 0;
+        return kept && r->cores == 0 && weight == rules[k][2];
+    }
+    int apart = r->core[k] == 0;
+    r->core[k] = r->cores;
+    return apart && (*left)-- > 0;
+}
+
+/* Reads the first answer of the last run; is it of the form, with rules of the set and no rule in two cores? */
+static int read_relaxed(unsigned (*rules)[3], unsigned n, struct relaxed *r)
+{
+    char line[64];
+    unsigned left = 0;
+    memset(r->kept, 1, n);
+    FILE *f = fopen(answers, "rb");
+    need(f != NULL && fgets(line, sizeof line, f) != NULL, "read the answers");
+    int right = sscanf(line, "drop\t%u\t%u\t%u\n", &r->weight, &r->floor, &r->count) == 3;
+    while (right && fgets(line, sizeof line, f) != NULL && strncmp(line, "drop", 4) != 0)
+        right = take_line(line, rules, n, r, &left);
+    fclose(f);
+    return right && left == 0;
+}
+
+/* Is it a core: no order keeps it, and without any one of its rules some order does? */
+static int is_core(const struct text *t, char *core, unsigned n)
+{
+    int right = !ordered(t, core);
+    for (unsigned k = 0; k < n; k++)
+        if (core[k]) {
+            core[k] = 0;
+            right &= ordered(t, core);
+            core[k] = 1;
+        }
+    return right;
+}
+
+/* Are the listed ones cores, with least weights that come to the floor at most? */
+static int cores_hold(const struct text *t, unsigned (*rules)[3], unsigned n, const struct relaxed *r)
+{
+    char core[RULES] = "";
+    unsigned sum = 0;
+    int right = 1;
+    for (unsigned number = 1; number <= r->cores; number++) {
+        unsigned least = MAX_WEIGHT;
+        for (unsigned k = 0; k < n; k++) {
+            core[k] = r->core[k] == number;
+            if (core[k] && rules[k][2] < least)
+                least = rules[k][2];
+        }
+        sum += least;
+        right &= is_core(t, core, n);
+    }
+    return right && sum <= r->floor;
+}
+
+/* Do all cores of a short list meet the listed ones? */
+static int cores_met(const struct text *t, unsigned n, const struct relaxed *r)
+{
+    char others[RULES] = "";
+    for (unsigned k = 0; k < n; k++)
+        others[k] = r->core[k] == 0;
+    return ordered(t, others);
+}
+
+/* Is an answer right, as far as the C call can tell? */
+static int holds(const struct text *t, unsigned (*rules)[3], unsigned n, unsigned budget, const struct relaxed *r)
+{
+    char kept[RULES];
+    unsigned weight = 0, dropped = 0;
+    int right = ordered(t, r->kept) && cores_hold(t, rules, n, r);
+    memcpy(kept, r->kept, sizeof kept);
+    for (unsigned k = 0; k < n; k++)
+        if (!kept[k]) {
+            kept[k] = 1;
+            right &= budget <= n || !ordered(t, kept);
+            kept[k] = 0;
+            weight += rules[k][2];
+            dropped++;
+        }
+    if (budget > 2 * n && dropped > 0)
+        right &= r->cores > 0;
+    if (n <= SHORT && budget >= SUBSETS)
+        right &= r->floor == r->weight && cores_met(t, n, r);
+    return right && r->weight == weight && r->floor <= weight && r->count <= budget;
+}
+
+/* Asks what can be given up within a budget, and holds the answer against the C call. */
+static void give_up(const char *name, const struct text *t, unsigned budget, struct relaxed *r)
+{
+    unsigned rules[RULES][3], n = rules_of(t, rules);
+    char question[16], answer[64], none[RULES] = "";
+    memset(r, 0, sizeof *r);
+    sprintf(question, "drop\t%u", budget);
+    ask(t, question, 1, answer, sizeof answer);
+    if (strcmp(answer, "none\t1\n") == 0 ? !ordered(t, none) : read_relaxed(rules, n, r) && holds(t, rules, n, budget, r))
+        return;
+    fprintf(stderr, "%s: budget %u: a wrong answer, %s", name, budget, answer);
+    exit(1);
+}
+
+static const struct kind clashing[] = {
+    { "13 to 40 rules", 100, { 8, FULL }, { 13, 40 }, { 25, 65 }, { 5, 25 }, { 4, 13 } },
+    { "60 to 128 rules", 48, { 16, FULL }, { 60, RULES }, { 8, 43 }, { 2, 12 }, { 5, 18 } },
+};
+
+static const struct kind drawn_short = { "12 rules", 20, { FULL, FULL }, { SHORT, SHORT }, { 25, 65 }, { 5, 25 }, { 2, 8 } };
+
+/* The weights that a drawn set is given, from 1 to these. */
+static const unsigned weights[] = { MAX_WEIGHT, 10, 1 };
+
+static const struct family shorts[] = {
+    { "an order", rising, FULL, SHORT },
+    { "eight resources, an order", sharing, FULL, SHORT },
+    { "one rule clashes with the deadlines", rising_clash, FULL, SHORT },
+    { "eight resources, one rule clashes", sharing_clash, FULL, SHORT },
+    { "one circle of 12", one_circle, FULL, SHORT },
+    { "four circles of 3", threes, FULL, SHORT },
+    { "six circles of 2", pairs, FULL, SHORT },
+    { "any 7 can be kept, but no 8", seven, FULL, SHORT },
+    { "hostile, all can be kept", hostile, FULL, SHORT },
+    { "hostile, any 7 can be kept, but no 8", hostile_seven, FULL, SHORT },
+};
+
+/* How many kinds, weights and short lists; how many sets of a kind are checked, and within which budget, if not short. */
+enum {
+    KINDS = sizeof clashing / sizeof clashing[0],
+    WEIGHTS = sizeof weights / sizeof weights[0],
+    SHORTS = sizeof shorts / sizeof shorts[0],
+    CHECKED = 12,
+    SOME_BUDGET = 1000,
+};
+
+static unsigned rules_dropped(const struct text *t, const struct relaxed *r)
+{
+    unsigned rules[RULES][3], n = rules_of(t, rules), dropped = 0;
+    for (unsigned k = 0; k < n; k++)
+        dropped += !r->kept[k];
+    return dropped;
+}
+
+/* What sets of a kind come to: sums, and what was most. */
+struct tally {
+    unsigned sets, closed;
+    double dropped, cores, solved, most_solved, took, most_took, ratio, most_ratio;
+};
+
+static double greater(double a, double b)
+{
+    return a > b ? a : b;
+}
+
+/* What one call takes, asked so often that a run takes long enough. */
+static double call(const struct text *t, const char *question)
+{
+    char answer[64];
+    unsigned cases = 1;
+    while (cases < MOST_CASES && ask(t, question, cases, answer, sizeof answer) < ENOUGH)
+        cases *= 2;
+    return asked(t, question, cases, answer, sizeof answer);
+}
+
+static double call_within(const struct text *t, unsigned budget)
+{
+    char question[16];
+    sprintf(question, "drop\t%u", budget);
+    return call(t, question);
+}
+
+/* A trial with the marked rules. */
+static double trial_with(const struct text *t, const char *marks)
+{
+    char question[8 + RULES] = "trial\t";
+    for (unsigned k = 0; k < RULES; k++)
+        strcat(question, marks[k] ? "1" : "0");
+    return call(t, question);
+}
+
+/*
+ * What a set adds. The call's time is held against as many trials as it counts.
+ * It solves sets with an order and sets without; so a trial takes the mean of
+ * one with the rules that are kept and of one with every rule.
+ */
+static void add_set(const struct kind *kind, const struct text *t, double every, struct tally *y)
+{
+    struct relaxed r;
+    give_up(kind->name, t, MAX_BUDGET, &r);
+    double took = call_within(t, MAX_BUDGET), ratio = took / (r.count * (trial_with(t, r.kept) + every) / 2);
+    y->sets++;
+    y->closed += r.floor == r.weight;
+    y->dropped += rules_dropped(t, &r);
+    y->cores += r.cores;
+    y->solved += r.count;
+    y->most_solved = greater(y->most_solved, r.count);
+    y->took += took;
+    y->most_took = greater(y->most_took, took);
+    y->ratio += ratio;
+    y->most_ratio = greater(y->most_ratio, ratio);
+}
+
+static void print_tally(const struct kind *kind, unsigned most, const struct tally *y)
+{
+    printf(most > 1 ? "| %s, weights 1 to %u" : "| %s, weights all %u", kind->name, most);
+    printf(" | %u of %u | %.1f | %.1f | %.0f | %.0f | %.1f | %.1f | ", y->closed, y->sets, y->dropped / y->sets, y->cores / y->sets,
+           y->solved / y->sets, y->most_solved, 1e3 * y->took / y->sets, 1e3 * y->most_took);
+    print_ratio(y->ratio / y->sets);
+    printf(" | ");
+    print_ratio(y->most_ratio);
+    printf(" |\n");
+    fflush(stdout);
+}
+
+static void draw_set(const struct kind *kind, struct text *t)
+{
+    while (!drawn(kind, t))
+        continue;
+}
+
+static void print_drops(void)
+{
+    static struct text t, weighed;
+    char every[RULES];
+    memset(every, 1, sizeof every);
+    printf("\n| drawn sets with clashes | the floor is the weight | rules dropped, mean | cores listed, mean | sets solved, mean | most | "
+           "the call, mean, ms | most | the call / its trials, mean | most |\n");
+    printf("|---|---:|---:|---:|---:|---:|---:|---:|---:|---:|\n");
+    for (unsigned k = 0; k < KINDS; k++) {
+        struct tally tallies[WEIGHTS] = { 0 };
+        state = 0;
+        for (unsigned i = 0; i < clashing[k].sets; i++) {
+            draw_set(&clashing[k], &t);
+            double trial = trial_with(&t, every);
+            for (unsigned w = 0; w < WEIGHTS; w++) {
+                weigh(&t, weights[w], &weighed);
+                add_set(&clashing[k], &weighed, trial, &tallies[w]);
+            }
+        }
+        for (unsigned w = 0; w < WEIGHTS; w++)
+            print_tally(&clashing[k], weights[w], &tallies[w]);
+    }
+}
+
+/* Asks for a trial of each set of a short list: rule k is in a set where bit k of its number is set. */
+static void write_trials(const struct text *t, unsigned n)
+{
+    FILE *f = fopen(asking, "wb");
+    need(f != NULL, "write the cases");
+    for (unsigned set = 0; set < 1u << n; set++) {
+        char question[8 + SHORT] = "trial\t";
+        for (unsigned k = 0; k < n; k++)
+            strcat(question, set >> k & 1 ? "1" : "0");
+        write_case(f, question, t);
+    }
+    need(fclose(f) == 0, "write the cases");
+}
+
+/* The least weight of what is not in a set that has an order, by the answers. */
+static unsigned least_weight(unsigned (*rules)[3], unsigned n)
+{
+    unsigned least = MAX_WEIGHT * SHORT;
+    char line[16];
+    FILE *f = fopen(answers, "rb");
+    for (unsigned set = 0; set < 1u << n; set++) {
+        unsigned weight = 0;
+        need(f != NULL && fgets(line, sizeof line, f) != NULL, "read the answers");
+        for (unsigned k = 0; k < n; k++)
+            weight += set >> k & 1 ? 0 : rules[k][2];
+        if (strcmp(line, "yes\n") == 0 && weight < least)
+            least = weight;
+    }
+    fclose(f);
+    return least;
+}
+
+/* A row of the short lists: a set, or several together. */
+static void print_short(const char *name, double dropped, double cores, double took, double trials)
+{
+    printf("| %s | %.4g | %.4g | %.1f | %.1f | ", name, dropped, cores, 1e3 * took, 1e3 * trials);
+    print_ratio(took / trials);
+    printf(" |\n");
+    fflush(stdout);
+}
+
+/* Asks what to give up of a short list, and tries each set of its rules; gives the two times. */
+static void measure_short(const char *name, const struct text *t, struct relaxed *r, double *took, double *trials)
+{
+    unsigned rules[RULES][3], n = rules_of(t, rules);
+    char answer[64];
+    give_up(name, t, MAX_BUDGET, r);
+    *took = call_within(t, MAX_BUDGET);
+    double reading = 1e9, least = 1e9;
+    for (unsigned k = 0; k < RUNS && (k == 0 || least < LONG); k++) {
+        reading = lesser(reading, ask(t, "", 1u << n, answer, sizeof answer));
+        write_trials(t, n);
+        least = lesser(least, run_program());
+    }
+    *trials = least - reading;
+    need(least_weight(rules, n) == r->weight, "find the weight by trials");
+}
+
+/* Drawn ones, the mean and the one with the greatest ratio. */
+static void print_drawn_shorts(const struct kind *kind)
+{
+    static struct text t;
+    double sum[4] = { 0 }, worst[4] = { 0, 0, 0, 1 };
+    state = 0;
+    for (unsigned i = 0; i < kind->sets; i++) {
+        struct relaxed r;
+        double row[4];
+        draw_set(kind, &t);
+        measure_short(kind->name, &t, &r, &row[2], &row[3]);
+        row[0] = rules_dropped(&t, &r);
+        row[1] = r.cores;
+        for (unsigned k = 0; k < 4; k++)
+            sum[k] += row[k] / kind->sets;
+        if (row[2] / row[3] > worst[2] / worst[3])
+            memcpy(worst, row, sizeof worst);
+    }
+    print_short("drawn with clashes, mean", sum[0], sum[1], sum[2], sum[3]);
+    print_short("drawn with clashes, the worst", worst[0], worst[1], worst[2], worst[3]);
+}
+
+static void print_shorts(void)
+{
+    static struct text t;
+    printf("\n| 12 rules over 64 tasks | rules dropped | cores listed | the call, ms | 4,096 trials, ms | the call / 4,096 trials |\n");
+    printf("|---|---:|---:|---:|---:|---:|\n");
+    for (size_t k = 0; k < SHORTS; k++) {
+        struct relaxed r;
+        double took, trials;
+        make(&shorts[k], &t);
+        measure_short(shorts[k].name, &t, &r, &took, &trials);
+        print_short(shorts[k].name, rules_dropped(&t, &r), r.cores, took, trials);
+    }
+    print_drawn_shorts(&drawn_short);
+}
+
 static void check(const struct family *f, size_t count)
 {
     static struct text t;
@@ -602,10 +1208,64 @@ static void check_longest(const struct family *f, size_t count)
         for (unsigned step = 0; step < 8; step++) {
             unsigned place = (f[k].tasks - 1) * step / 7;
             sprintf(question, "longest\t%u", place);
-            ask(&t, question, 1, 1, answer, sizeof answer);
+            ask(&t, question, 1, answer, sizeof answer);
             agree(&f[k], &t, place, answer);
         }
     }
+}
+
+/* Budgets on both sides of each promise. No floor may be above a weight, whatever the budgets. */
+static void check_budgets(const char *name, const struct text *t, unsigned most)
+{
+    unsigned rules[RULES][3], n = rules_of(t, rules), floor = 0, weight = RULES * MAX_WEIGHT;
+    const unsigned budgets[] = { 1, n, n + 1, 2 * n + 1, most };
+    struct relaxed r;
+    for (size_t k = 0; k < sizeof budgets / sizeof budgets[0]; k++) {
+        if (budgets[k] == 0)
+            continue;
+        give_up(name, t, budgets[k], &r);
+        floor = r.floor > floor ? r.floor : floor;
+        weight = r.weight < weight ? r.weight : weight;
+    }
+    if (floor <= weight)
+        return;
+    fprintf(stderr, "%s: a floor of %u and a weight of %u\n", name, floor, weight);
+    exit(1);
+}
+
+/* The first sets of a kind, with each range of weights in turn. */
+static void check_drawn(const struct kind *kind, unsigned most)
+{
+    static struct text t, weighed;
+    state = 0;
+    for (unsigned i = 0; i < CHECKED; i++) {
+        draw_set(kind, &t);
+        weigh(&t, weights[i % WEIGHTS], &weighed);
+        check_budgets(kind->name, &weighed, most);
+    }
+}
+
+/* Made sets that are not hostile; gives how many. */
+static unsigned check_made(const struct family *f, size_t count, unsigned most)
+{
+    static struct text t;
+    unsigned checked = 0;
+    for (size_t k = 0; k < count; k++)
+        if (strncmp(f[k].name, "hostile", 7) != 0) {
+            make(&f[k], &t);
+            check_budgets(f[k].name, &t, most);
+            checked++;
+        }
+    return checked;
+}
+
+/* Gives how many sets are checked. */
+static unsigned check_drops(const struct family *f, size_t count)
+{
+    for (unsigned k = 0; k < KINDS; k++)
+        check_drawn(&clashing[k], SOME_BUDGET);
+    check_drawn(&drawn_short, SUBSETS);
+    return (KINDS + 1) * CHECKED + check_made(shorts, SHORTS, SUBSETS) + check_made(f, count, SOME_BUDGET);
 }
 
 int main(int argc, char **argv)
@@ -617,10 +1277,13 @@ int main(int argc, char **argv)
         check_longest(families, kinds);
         check_longest(growth, steps);
         printf("bench: %zu task sets, answered alike; how long 8 tasks of each may run is as the C call has it\n", kinds + steps);
+        printf("bench: what can be given up of %u task sets is as the C call has it\n", check_drops(families, kinds));
         return 0;
     }
     double unit = print_table("64 tasks", families, kinds, 0);
     print_table("growth", growth, steps, unit);
     print_lengths(families, kinds);
+    print_drops();
+    print_shorts();
     return 0;
 }

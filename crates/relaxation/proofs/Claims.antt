@@ -15,7 +15,7 @@ use Rattle.relaxation.specs.declared.frontier.Open.{Open}
 use Rattle.relaxation.specs.declared.frontier.Frontier.{Frontier}
 use Rattle.relaxation.specs.declared.explore.Exploring.{Exploring}
 use Rattle.relaxation.specs.Weights.{weight_at, cost_of, least_weight}
-use Rattle.relaxation.specs.Listing.{max_remembered, core_at}
+use Rattle.relaxation.specs.Disjoint.{max_remembered, core_at}
 use Rattle.relaxation.specs.Relaxes.{in_core}
 use Rattle.relaxation.specs.Frontier.{open_at, FewOpen}
 
@@ -56,7 +56,7 @@ module _ (p : Problem) where
   -- those that are listed are cores, share no rule by their numbers, and have these least weights
   pub record ListsCores (s : DisjointCores) : Type 0 where
     pub long : length s.numbers ≡ max_rules
-    pub numbered : (k : ℕ) → get_or s.numbers k 0 ≤ s.ncores
+    pub numbers : (k : ℕ) → get_or s.numbers k 0 ≤ s.ncores
     pub core : (j : ℕ) → 1 ≤ j → j ≤ s.ncores → IsCore (in_core s.numbers j)
     pub some : (j : ℕ) → 1 ≤ j → j ≤ s.ncores → (k : ℕ) × (k < length p.rules) × (get_or s.numbers k 0 ≡ j)
     pub least : s.least ≡ sum s.ncores every (λ j. least_weight p.rules (length p.rules) (in_core s.numbers (j + 1)))

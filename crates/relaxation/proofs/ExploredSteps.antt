@@ -11,12 +11,12 @@ use Rattle.subsets.specs.Subsets.{short, subsets}
 use Rattle.relaxation.specs.declared.cores.DisjointCores.{DisjointCores}
 use Rattle.relaxation.specs.declared.explore.Exploring.{Exploring}
 use Rattle.relaxation.specs.Weights.{cost_of}
-use Rattle.relaxation.specs.Listing.{listed_in}
+use Rattle.relaxation.specs.Disjoint.{listed_in}
 use Rattle.relaxation.specs.Exploring.{explored}
 use Rattle.relaxation.specs.Relaxing.{dropped_of, none_relaxed, tabled_relaxation, explored_relaxation, relaxed_within}
 use Rattle.relaxation.proofs.Claims.{Explores}
 use Rattle.relaxation.proofs.EachTurn.{light_each}
-use Rattle.relaxation.proofs.ListingLaws.{listed_floor}
+use Rattle.relaxation.proofs.DisjointLaws.{listed_floor}
 use Rattle.relaxation.proofs.ExploringLaws.{explored_explores}
 use Rattle.relaxation.proofs.ExploringSteps.{relaxable, restores}
 

@@ -22,12 +22,12 @@ use Rattle.relaxation.specs.declared.explore.Exploring.{Exploring}
 use Rattle.relaxation.specs.Weights.{weight_at, others, cost_of, cost_most}
 use Rattle.relaxation.specs.Turns.{light_first}
 use Rattle.relaxation.specs.Restoring.{restored}
-use Rattle.relaxation.specs.Listing.{included, max_remembered, core_at, remembered}
+use Rattle.relaxation.specs.Disjoint.{included, max_remembered, core_at, remembered}
 use Rattle.relaxation.specs.Frontier.{max_open, least_of, branched}
 use Rattle.relaxation.specs.Exploring.{stopped, counted, taking, settled, changed, counted_cut, core_in, branching, learned, learning, solved, looked, looking, every_open, at_start, started, explored, looks}
 use Rattle.relaxation.proofs.Claims.{Relaxable, IsCore, Restores, Remembers, Opens, Fronts, part_of, InHand, IsFloor, Explores}
 use Rattle.relaxation.proofs.RestoringLaws.{marked_there, marked_still}
-use Rattle.relaxation.proofs.ListingLaws.{included-subset}
+use Rattle.relaxation.proofs.DisjointLaws.{included-subset}
 use Rattle.relaxation.proofs.TurnLaws.{marks_first}
 use Rattle.relaxation.proofs.FrontierLaws.{more_cost, ListedFloor, least_floor, taken_fronts, branched_fronts}
 

@@ -21,7 +21,7 @@ use Rattle.relaxation.specs.declared.frontier.Open.{Open}
 use Rattle.relaxation.specs.declared.frontier.Frontier.{Frontier}
 use Rattle.relaxation.specs.declared.explore.Exploring.{Exploring}
 use Rattle.relaxation.specs.Weights.{weight_at, others, cost_most}
-use Rattle.relaxation.specs.Listing.{included, core_at}
+use Rattle.relaxation.specs.Disjoint.{included, core_at}
 use Rattle.relaxation.specs.Frontier.{least_of, taken}
 use Rattle.relaxation.specs.Exploring.{stopped, counted, settled, changed, branching, learning, solved, looked, looking, every_open, at_start, started}
 use Rattle.relaxation.specs.Restoring.{restored}

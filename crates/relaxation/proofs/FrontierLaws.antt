@@ -18,22 +18,22 @@ use Rattle.relaxation.specs.declared.cores.Cores.{Cores}
 use Rattle.relaxation.specs.declared.frontier.Open.{Open}
 use Rattle.relaxation.specs.declared.frontier.Frontier.{Frontier}
 use Rattle.relaxation.specs.Weights.{weight_at, others, cost_of, cost_most}
-use Rattle.relaxation.specs.Listing.{listed_in}
-use Rattle.relaxation.specs.Frontier.{max_open, no_open, open_at, FewOpen, lightest, least_of, taken, added, without_rule, child, branched}
+use Rattle.relaxation.specs.Disjoint.{listed_in}
+use Rattle.relaxation.specs.Frontier.{max_open, no_open, open_at, FewOpen, foremost, least_of, taken, added, without_rule, child, branched}
 use Rattle.relaxation.proofs.Claims.{Relaxable, IsCore, Remembers, Opens, Fronts, nothing_beside, part_of}
 
--- ---- the lightest
+-- ---- the foremost
 
--- the lightest of the first n sets is one of them, and none of them has a smaller `least`
-abbrev IsLightest : Frontier → ℕ → ℕ → Type 0
-IsLightest f n k = (k < n) × ((i : ℕ) → i < n → (open_at f k).least ≤ (open_at f i).least)
+-- the foremost of the first n sets is one of them, and none of them has a smaller `least`
+abbrev IsForemost : Frontier → ℕ → ℕ → Type 0
+IsForemost f n k = (k < n) × ((i : ℕ) → i < n → (open_at f k).least ≤ (open_at f i).least)
 
 -- one set more, the first one or a later one
-lightest_next : (f : Frontier) (n k : ℕ) → (n ≡ 0) × (k ≡ n) ⊎ IsLightest f n k
-    → IsLightest f (suc n) (pick (leb (open_at f n).least (open_at f k).least) n k)
-lightest_next f n k is = go (leb (open_at f n).least (open_at f k).least) refl
+foremost_next : (f : Frontier) (n k : ℕ) → (n ≡ 0) × (k ≡ n) ⊎ IsForemost f n k
+    → IsForemost f (suc n) (pick (leb (open_at f n).least (open_at f k).least) n k)
+foremost_next f n k is = go (leb (open_at f n).least (open_at f k).least) refl
   where
-    go : (c : Bool) → leb (open_at f n).least (open_at f k).least ≡ c → IsLightest f (suc n) (pick c n k)
+    go : (c : Bool) → leb (open_at f n).least (open_at f k).least ≡ c → IsForemost f (suc n) (pick c n k)
     go true e =
         let last = leb→le (open_at f n).least (open_at f k).least (true→T _ e) in (
           le_refl (suc n),
@@ -50,12 +50,12 @@ lightest_next f n k is = go (leb (open_at f n).least (open_at f k).least) refl
         ))
         is
 
-pub lightest_is : (f : Frontier) (n : ℕ) → 1 ≤ n → IsLightest f n (lightest f n)
-unfolding lightest
-lightest_is f zero h = absurd (not-suc-le-zero h)
-lightest_is f (suc n) h =
-    lightest_next f n (lightest f n)
-    (⊎_elim (λ z. inl (z, rw z refl)) (λ more. inr (lightest_is f n more)) (eq-zero-or-pos n))
+pub foremost_is : (f : Frontier) (n : ℕ) → 1 ≤ n → IsForemost f n (foremost f n)
+unfolding foremost
+foremost_is f zero h = absurd (not-suc-le-zero h)
+foremost_is f (suc n) h =
+    foremost_next f n (foremost f n)
+    (⊎_elim (λ z. inl (z, rw z refl)) (λ more. inr (foremost_is f n more)) (eq-zero-or-pos n))
 
 -- two numbers are the same or not
 same_or_other : (a b : ℕ) → (a ≡ b) ⊎ (a ≡ b → ⊥)
@@ -66,10 +66,10 @@ same_or_other a b =
 
 module _ (f : Frontier) (few : FewOpen f) (some : 1 ≤ f.n) where
   abbrev out : ℕ
-  out = lightest f f.n
+  out = foremost f f.n
 
   out_below : out < f.n
-  out_below = (lightest_is f f.n some).0
+  out_below = (foremost_is f f.n some).0
 
   out_room : out < length f.sets
   out_room = omega (arith, out_below, few.few, few.size)
@@ -214,16 +214,16 @@ module _ (p : Problem) (fit : Relaxable p) where
   -- ---- one is taken out
 
   module _ (f : Frontier) (limit : ℕ) (fronts : Fronts p f limit (nothing_beside p)) (some : 1 ≤ f.n) where
-    lightest_below : lightest f f.n < f.n
-    lightest_below = (lightest_is f f.n some).0
+    foremost_below : foremost f f.n < f.n
+    foremost_below = (foremost_is f f.n some).0
 
-    -- a set that has an order and costs less than the limit costs at least as much as the lightest
+    -- a set that has an order and costs less than the limit costs at least as much as the foremost
     pub least_floor : f.full ≡ false → (K : ℕ → Bool) → T (feasible p K) → cost_of p.rules K < limit
         → (least_of f).least ≤ cost_of p.rules K
     least_floor room K works cheap =
         ⊎_elim (λ none. absurd none)
         (λ i.
-        let light = (lightest_is f f.n some).1 i.0 i.1 in
+        let light = (foremost_is f f.n some).1 i.0 i.1 in
         let floor = (fronts.each i.0 i.1).floor K works i.2 in
         omega (arith, light, floor))
         (fronts.covers room K works cheap)
@@ -232,19 +232,19 @@ module _ (p : Problem) (fit : Relaxable p) where
     pub taken_fronts : Opens p (least_of f) × ((least_of f).least < limit) × Fronts p (taken f) limit (part_of p (least_of f))
     unfolding taken
     taken_fronts = (
-      fronts.each (lightest f f.n) lightest_below,
-      fronts.less (lightest f f.n) lightest_below,
+      fronts.each (foremost f f.n) foremost_below,
+      fronts.less (foremost f f.n) foremost_below,
       record {
         few = few_taken f fronts.few some;
         each = λ i h. let j = taken_old f fronts.few some i h in subst (Opens p) (sym j.2) (fronts.each j.0 j.1);
         less = λ i h. let j = taken_old f fronts.few some i h in subst (λ (o : Open). o.least < limit) (sym j.2) (fronts.less j.0 j.1);
         covers = λ room K works cheap.
-            ⊎_elim (λ none. absurd none) (λ i. covered K i.0 i.1 i.2 (same_or_other (lightest f f.n) i.0)) (fronts.covers room K works cheap);
+            ⊎_elim (λ none. absurd none) (λ i. covered K i.0 i.1 i.2 (same_or_other (foremost f f.n) i.0)) (fronts.covers room K works cheap);
       },
     )
       where
         covered : (K : ℕ → Bool) (i : ℕ) → i < f.n → Subset (length p.rules) K (marked (open_at f i).kept)
-            → (lightest f f.n ≡ i) ⊎ (lightest f f.n ≡ i → ⊥)
+            → (foremost f f.n ≡ i) ⊎ (foremost f f.n ≡ i → ⊥)
             → part_of p (least_of f) K ⊎ ((j : ℕ) × (j < (taken f).n) × Subset (length p.rules) K (marked (open_at (taken f) j).kept))
         covered K i h part is =
             ⊎_elim (λ e. inl (subst (λ (q : ℕ). Subset (length p.rules) K (marked (open_at f q).kept)) (sym e) part))

@@ -9,20 +9,20 @@ use Rattle.relaxation.specs.declared.cores.Cores.{Cores}
 use Rattle.relaxation.specs.declared.frontier.Frontier.{Frontier}
 use Rattle.relaxation.specs.declared.frontier.Open.{Open}
 use Rattle.relaxation.specs.Weights.{weight_at}
-use Rattle.relaxation.specs.Listing.{listed_in}
-use Rattle.relaxation.specs.Frontier.{max_open, open_at, lightest, taken, added, child, branched}
+use Rattle.relaxation.specs.Disjoint.{listed_in}
+use Rattle.relaxation.specs.Frontier.{max_open, open_at, foremost, taken, added, child, branched}
 
-pub lightest_none : (f : Frontier) → 0 ≡ lightest f 0
-unfolding lightest
-lightest_none f = refl
+pub foremost_none : (f : Frontier) → 0 ≡ foremost f 0
+unfolding foremost
+foremost_none f = refl
 
-pub lightest_turn : (f : Frontier) (n found : ℕ) → found ≡ lightest f n → (b : Bool) → leb (open_at f n).least (open_at f found).least ≡ b
-    → pick b n found ≡ lightest f (n + 1)
-unfolding lightest
-lightest_turn f n found e b t = rw (add-one n, ← e, t) refl
+pub foremost_turn : (f : Frontier) (n found : ℕ) → found ≡ foremost f n → (b : Bool) → leb (open_at f n).least (open_at f found).least ≡ b
+    → pick b n found ≡ foremost f (n + 1)
+unfolding foremost
+foremost_turn f n found e b t = rw (add-one n, ← e, t) refl
 
 -- the set at the index that was found is taken out
-pub taken_is : (f : Frontier) (i : ℕ) → i ≡ lightest f f.n
+pub taken_is : (f : Frontier) (i : ℕ) → i ≡ foremost f f.n
     → record { sets = set f.sets i (open_at f (f.n - 1)); n = f.n - 1; full = f.full } ≡ taken f
 unfolding taken
 taken_is f i e = ap (λ (k : ℕ). record { sets = set f.sets k (open_at f (f.n - 1)); n = f.n - 1; full = f.full }) e

@@ -2,8 +2,8 @@ pub mod Claims
 pub mod TurnLaws
 pub mod EachTurn
 pub mod RestoringLaws
-pub mod ListingSteps
-pub mod ListingLaws
+pub mod DisjointSteps
+pub mod DisjointLaws
 pub mod FrontierSteps
 pub mod FrontierLaws
 pub mod ExploringLaws

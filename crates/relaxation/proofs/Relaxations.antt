@@ -22,8 +22,8 @@ use Rattle.relaxation.specs.declared.Relaxed.{Relaxed}
 use Rattle.relaxation.specs.Weights.{least_weight, heaviest}
 use Rattle.relaxation.specs.Turns.{turns_of}
 use Rattle.relaxation.specs.Restoring.{put_back, restored}
-use Rattle.relaxation.specs.Listing.{listing, listed_in, included, remembered}
-use Rattle.relaxation.specs.Frontier.{lightest, taken, added, child, branched}
+use Rattle.relaxation.specs.Disjoint.{listed_with, listed_in, included, remembered}
+use Rattle.relaxation.specs.Frontier.{foremost, taken, added, child, branched}
 use Rattle.relaxation.specs.Exploring.{counted_cut, branching, learning, solved, looked, looking, started, explored}
 use Rattle.relaxation.specs.Table.{answers, cheapest, cores_listed}
 use Rattle.relaxation.specs.Relaxing.{tabled_relaxation, explored_relaxation, relaxed_within, relaxing}
@@ -69,6 +69,8 @@ pub record Relaxations : Type 0 where
   pub five : relaxing (k8 3 5) 5 ≡ gives (true ∷ false ∷ []) 3 3 (1 ∷ 1 ∷ []) 1 5
   -- with more, sets are looked at: rule 0 was put back first, and is the cheaper one to give up
   pub seven : relaxing crossed 7 ≡ gives (false ∷ true ∷ true ∷ []) 6 4 (1 ∷ 0 ∷ 1 ∷ []) 1 7
+  -- a set that has no order is counted where the budget ends before its core
+  pub eight : relaxing crossed 8 ≡ gives (false ∷ true ∷ true ∷ []) 6 4 (1 ∷ 0 ∷ 1 ∷ []) 1 8
   pub twelve : relaxing crossed 12 ≡ gives (true ∷ false ∷ false ∷ []) 5 5 (1 ∷ 0 ∷ 1 ∷ []) 1 12
   pub k6_explored : relaxing (holding sheet_k6) 100 ≡ gives (false ∷ true ∷ true ∷ []) 2 2 (0 ∷ 1 ∷ 2 ∷ []) 2 11
   -- 14, 13, 16
@@ -78,7 +80,7 @@ pub record Relaxations : Type 0 where
   pub not_made : relaxing unmade 0 ≡ Err NotMade
 
 pub relaxations : Relaxations
-unfolding relaxing relaxed_within tabled_relaxation explored_relaxation explored looking looked solved started learning branching counted_cut restored put_back turns_of heaviest listed_in included remembered lightest taken added child branched answers cheapest cores_listed listing least_weight numbered ruled_out tried is_made task_fits rule_fits entry_fits row_refusals index_refusals weight_refusals section_on longest_section all greatest count maximum sum
+unfolding relaxing relaxed_within tabled_relaxation explored_relaxation explored looking looked solved started learning branching counted_cut restored put_back turns_of heaviest listed_in included remembered foremost taken added child branched answers cheapest cores_listed listed_with least_weight numbered ruled_out tried is_made task_fits rule_fits entry_fits row_refusals index_refusals weight_refusals section_on longest_section all greatest count maximum sum
     feasible fill may_take ready unassigned demand interference blocking_of window_from window_of response_of
 relaxations =
     record {
@@ -92,6 +94,7 @@ relaxations =
       three = refl;
       five = refl;
       seven = refl;
+      eight = refl;
       twelve = refl;
       k6_explored = refl;
       no_budget = refl;

@@ -31,7 +31,7 @@ use Rattle.relaxation.specs.declared.cores.DisjointCores.{DisjointCores}
 use Rattle.relaxation.specs.declared.explore.Exploring.{Exploring}
 use Rattle.relaxation.specs.Weights.{weight_at, weight_of, others, cost_of}
 use Rattle.relaxation.specs.Restoring.{max_budget}
-use Rattle.relaxation.specs.Listing.{listed_in}
+use Rattle.relaxation.specs.Disjoint.{listed_in}
 use Rattle.relaxation.specs.Exploring.{explored}
 use Rattle.relaxation.specs.Table.{solved_set, cost_at, cheapest, cores_listed}
 use Rattle.relaxation.specs.Relaxing.{dropped_of, none_relaxed, tabled_relaxation, explored_relaxation, relaxed_within, relaxing_on, relaxing}
@@ -39,7 +39,7 @@ use Rattle.relaxation.specs.Relaxes.{Works, UnschedulabilityCore, in_core, Relie
 use Rattle.relaxation.proofs.Claims.{Relaxable, IsCore, ListsCores, IsFloor, Explores}
 use Rattle.relaxation.proofs.TableSteps.{tabled_whole}
 use Rattle.relaxation.proofs.TableLaws.{cheapest_is, cores_lists, cores_floor, cores_meet}
-use Rattle.relaxation.proofs.ListingLaws.{number, listed_lists, listed_first, listed_first_floor}
+use Rattle.relaxation.proofs.DisjointLaws.{number, listed_lists, listed_first, listed_first_floor}
 use Rattle.relaxation.proofs.FrontierLaws.{more_cost}
 use Rattle.relaxation.proofs.RestoringLaws.{marked_was}
 use Rattle.relaxation.proofs.ExploringLaws.{cut_is_core}
@@ -144,9 +144,9 @@ module _ (l : Lists) (sound : Sound l) where
         sum_same (length l.rules) (others (others X)) X (weight_at l.rules) (weight_at l.rules) (λ k h. not-not (X k)) (λ k h. refl) in
         omega (arith, under, same)
 
-    numbered_below : (k : ℕ) → 1 ≤ number s k → k < length l.rules
-    numbered_below k some =
-        (is.core (number s k) some (is.numbered k)).inside k (true→T (in_core s.numbers (number s k) k) (eq-eqb (number s k) (number s k) refl))
+    members_below : (k : ℕ) → 1 ≤ number s k → k < length l.rules
+    members_below k some =
+        (is.core (number s k) some (is.numbers k)).inside k (true→T (in_core s.numbers (number s k) k) (eq-eqb (number s k) (number s k) refl))
 
     abbrev More : Type 0
     More = (k : ℕ) → k < length l.rules → (T (kept k) → ⊥) → (K : ℕ → Bool) → Subset (length l.rules) kept K → T (K k)
@@ -176,8 +176,8 @@ module _ (l : Lists) (sound : Sound l) where
             floor = floor_under;
             cores = λ j low high. is_core (in_core s.numbers j) (is.core j low high);
             listed = λ j low high. let r = is.some j low high in (r.0, r.1, true→T (in_core s.numbers j r.0) (eq-eqb (number s r.0) j r.2));
-            numbers = is.numbered;
-            numbered = numbered_below;
+            numbers = is.numbers;
+            members = members_below;
             apart = λ i j k a b. sym (eqb→eq (number s k) i a) ∙ eqb→eq (number s k) j b;
             least = omega (arith, least, is.least);
             back = λ reaches k t o.
@@ -298,7 +298,7 @@ module _ (l : Lists) (sound : Sound l) (tables : Tabled (problem l)) (few : leng
       cut_core
       (best_back k h out (first (length l.rules)) (λ j g t. lt→ltb j (length l.rules) g) (lt→ltb k (length l.rules) h)) in
       let r = tables.meets cut core in
-      ⊎_elim (λ low. absurd (r.3 (omega (arith, low, tables.lists.numbered r.0)))) (λ g. g) (lt_or_le found.ncores 1)
+      ⊎_elim (λ low. absurd (r.3 (omega (arith, low, tables.lists.numbers r.0)))) (λ g. g) (lt_or_le found.ncores 1)
 
   pub tabled_relieves : Relieves l budget
       (record {

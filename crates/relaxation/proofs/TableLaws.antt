@@ -15,7 +15,7 @@ use Rattle.relaxation.specs.declared.cores.DisjointCores.{DisjointCores}
 use Rattle.relaxation.specs.Weights.{weight_at, others, cost_of}
 use Rattle.relaxation.specs.Table.{solved_set, cost_at, cheapest, cores_listed}
 use Rattle.relaxation.proofs.Claims.{Relaxable, IsCore, ListsCores, IsFloor}
-use Rattle.relaxation.proofs.ListingLaws.{number, none_lists, listing_lists, listing_meets, listing_stays, Floors, none_floors, listing_floors, floors_floor}
+use Rattle.relaxation.proofs.DisjointLaws.{number, none_lists, listing_lists, listing_meets, listing_stays, Floors, none_floors, listing_floors, floors_floor}
 use Rattle.relaxation.proofs.TableSteps.{cores_listed_by}
 
 module _ (p : Problem) (fit : Relaxable p) (few : length p.rules ≤ short) where

@@ -16,10 +16,10 @@ use Rattle.subsets.proofs.SubsetsLaws.{sets-le}
 use Rattle.relaxation.specs.declared.cores.DisjointCores.{DisjointCores}
 use Rattle.relaxation.specs.declared.Relaxed.{Relaxed}
 use Rattle.relaxation.specs.Weights.{cost_of}
-use Rattle.relaxation.specs.Listing.{none_listed, listing}
+use Rattle.relaxation.specs.Disjoint.{none_listed, listed_with}
 use Rattle.relaxation.specs.Table.{answers, solved_set, cost_at, cheapest, cores_listed}
 use Rattle.relaxation.specs.Relaxing.{dropped_of, relaxed_by, tabled_relaxation}
-use Rattle.relaxation.proofs.ListingLaws.{listing_count, listing_small}
+use Rattle.relaxation.proofs.DisjointLaws.{listing_count, listing_small}
 
 -- ---- how many sets
 
@@ -99,19 +99,19 @@ module _ (p : Problem) where
   cores_none = refl
 
   pub cores_next : (n : ℕ) (s : DisjointCores) → s ≡ cores_listed p (solved_set p) n → (b : Bool) → core_set (solved_set p) n ≡ b
-      → pick b (listing p.rules s (numbered n)) s ≡ cores_listed p (solved_set p) (n + 1)
+      → pick b (listed_with p.rules s (numbered n)) s ≡ cores_listed p (solved_set p) (n + 1)
   unfolding cores_listed
   cores_next n s e b t = rw (add-one n, ← e, t) refl
 
   -- one set more: it is a core and listed, or nothing changes
   pub cores_listed_by : (n : ℕ) (P : DisjointCores → Type 0)
-      → (T (core_set (solved_set p) n) → P (listing p.rules (cores_listed p (solved_set p) n) (numbered n)))
+      → (T (core_set (solved_set p) n) → P (listed_with p.rules (cores_listed p (solved_set p) n) (numbered n)))
       → ((T (core_set (solved_set p) n) → ⊥) → P (cores_listed p (solved_set p) n))
       → P (cores_listed p (solved_set p) (suc n))
   unfolding cores_listed
   cores_listed_by n P more same = go (core_set (solved_set p) n) refl
     where
-      go : (b : Bool) → core_set (solved_set p) n ≡ b → P (pick b (listing p.rules (cores_listed p (solved_set p) n) (numbered n)) (cores_listed p (solved_set p) n))
+      go : (b : Bool) → core_set (solved_set p) n ≡ b → P (pick b (listed_with p.rules (cores_listed p (solved_set p) n) (numbered n)) (cores_listed p (solved_set p) n))
       go true e = more (true→T _ e)
       go false e = same (false→refuted _ e)
 

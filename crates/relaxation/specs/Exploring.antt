@@ -13,7 +13,7 @@ use Rattle.relaxation.specs.declared.explore.Exploring.{Exploring}
 use Rattle.relaxation.specs.Weights.{cost_of, cost_most, marks_of}
 use Rattle.relaxation.specs.Turns.{light_first}
 use Rattle.relaxation.specs.Restoring.{max_budget, restored}
-use Rattle.relaxation.specs.Listing.{included, max_remembered, core_at, remembered}
+use Rattle.relaxation.specs.Disjoint.{included, max_remembered, core_at, remembered}
 use Rattle.relaxation.specs.Frontier.{max_open, FewOpen, least_of, taken, branched}
 
 -- how often a set is looked at, at most

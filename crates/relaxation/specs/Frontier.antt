@@ -1,4 +1,4 @@
--- The sets of rules whose subsets are still to be looked at: how the lightest is taken out, and how it is branched. Assumes nothing.
+-- The sets of rules whose subsets are still to be looked at: how one with the least bound is taken out, and how it is branched. Assumes nothing.
 use Rattle.std.specs.Prelude.{Bool, false, true, List, [], ℕ, zero, suc, ◌+◌, ◌-◌, ◌≡◌, ◌≤◌, ◌<◌, max, leb, ltb, length, get_or, set}
 use Rattle.sets.specs.Choice.{pick}
 use Rattle.sets.specs.Marks.{marked}
@@ -7,7 +7,7 @@ use Rattle.relaxation.specs.declared.cores.Cores.{Cores}
 use Rattle.relaxation.specs.declared.frontier.Open.{Open}
 use Rattle.relaxation.specs.declared.frontier.Frontier.{Frontier}
 use Rattle.relaxation.specs.Weights.{weight_at, cost_most}
-use Rattle.relaxation.specs.Listing.{listed_in}
+use Rattle.relaxation.specs.Disjoint.{listed_in}
 
 -- so many are kept at once
 abbrev pub max_open : ℕ
@@ -27,16 +27,16 @@ pub record FewOpen (f : Frontier) : Type 0 where
   pub costs : (i : ℕ) → i < f.n → (open_at f i).cost ≤ cost_most
 
 -- the last one of the first n whose bound is the least
-unfoldable pub lightest : Frontier → ℕ → ℕ
-lightest f zero = 0
-lightest f (suc n) = let found = lightest f n in pick (leb (open_at f n).least (open_at f found).least) n found
+unfoldable pub foremost : Frontier → ℕ → ℕ
+foremost f zero = 0
+foremost f (suc n) = let found = foremost f n in pick (leb (open_at f n).least (open_at f found).least) n found
 
 abbrev pub least_of : Frontier → Open
-least_of f = open_at f (lightest f f.n)
+least_of f = open_at f (foremost f f.n)
 
 -- it is taken out, and the last one stands in its place
 unfoldable pub taken : Frontier → Frontier
-taken f = record { sets = set f.sets (lightest f f.n) (open_at f (f.n - 1)); n = f.n - 1; full = f.full }
+taken f = record { sets = set f.sets (foremost f f.n) (open_at f (f.n - 1)); n = f.n - 1; full = f.full }
 
 -- one more, if there is room
 unfoldable pub added : Frontier → Open → Frontier

@@ -1,7 +1,7 @@
 pub mod Weights
 pub mod Turns
 pub mod Restoring
-pub mod Listing
+pub mod Disjoint
 pub mod Frontier
 pub mod Exploring
 pub mod Table

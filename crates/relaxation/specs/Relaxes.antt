@@ -39,7 +39,7 @@ pub record Relieves (l : Lists) (budget : ℕ) (a : Relaxation) (count : ℕ) : 
   pub cores : (j : ℕ) → 1 ≤ j → j ≤ a.ncores → UnschedulabilityCore l (in_core a.cores j)
   pub listed : (j : ℕ) → 1 ≤ j → j ≤ a.ncores → (k : ℕ) × (k < length l.rules) × T (in_core a.cores j k)
   pub numbers : (k : ℕ) → get_or a.cores k 0 ≤ a.ncores
-  pub numbered : (k : ℕ) → 1 ≤ get_or a.cores k 0 → k < length l.rules
+  pub members : (k : ℕ) → 1 ≤ get_or a.cores k 0 → k < length l.rules
   -- no two sharing a rule
   pub apart : (i j k : ℕ) → T (in_core a.cores i k) → T (in_core a.cores j k) → i ≡ j
   -- and the floor is at least the sum of the least weights in each

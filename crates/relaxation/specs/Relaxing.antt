@@ -16,7 +16,7 @@ use Rattle.relaxation.specs.declared.Relaxed.{Relaxed}
 use Rattle.relaxation.specs.declared.cores.DisjointCores.{DisjointCores}
 use Rattle.relaxation.specs.Weights.{others, cost_of, marks_of}
 use Rattle.relaxation.specs.Restoring.{max_budget}
-use Rattle.relaxation.specs.Listing.{listed_in}
+use Rattle.relaxation.specs.Disjoint.{listed_in}
 use Rattle.relaxation.specs.Exploring.{explored}
 use Rattle.relaxation.specs.Table.{answers, cheapest, cores_listed}
 

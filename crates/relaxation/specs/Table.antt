@@ -7,7 +7,7 @@ use Rattle.assignment.specs.Audsley.{Problem, feasible}
 use Rattle.subsets.specs.Subsets.{core_set}
 use Rattle.relaxation.specs.declared.cores.DisjointCores.{DisjointCores}
 use Rattle.relaxation.specs.Weights.{cost_of}
-use Rattle.relaxation.specs.Listing.{none_listed, listing}
+use Rattle.relaxation.specs.Disjoint.{none_listed, listed_with}
 
 -- every set but that of no rules, which has an order, is solved once
 unfoldable pub answers : Problem → List Bool
@@ -29,4 +29,4 @@ module _ (p : Problem) (found : ℕ → Bool) where
   -- of the first n sets the cores, one after another, that share no rule with those before
   unfoldable pub cores_listed : ℕ → DisjointCores
   cores_listed zero = none_listed
-  cores_listed (suc n) = let s = cores_listed n in pick (core_set found n) (listing p.rules s (numbered n)) s
+  cores_listed (suc n) = let s = cores_listed n in pick (core_set found n) (listed_with p.rules s (numbered n)) s

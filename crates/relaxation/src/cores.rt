@@ -5,7 +5,7 @@ ghost use Rattle.sets.specs.Bounded.{all, greatest};
 ghost use Rattle.sets.specs.Marks.{marked};
 ghost use Rattle.taskset.specs.Refusals.{max_rules, max_weight};
 ghost use Rattle.relaxation.specs.Weights.{least_weight};
-ghost use Rattle.relaxation.specs.Listing.{none_listed, with_number, fresh_at, listing, included, listed_in, max_remembered, remembered, core_at};
+ghost use Rattle.relaxation.specs.Disjoint.{none_listed, with_number, fresh_at, listed_with, included, listed_in, max_remembered, remembered, core_at};
 
 use taskset::{MAX_RULES, MAX_WEIGHT, Rule};
 
@@ -103,7 +103,7 @@ impl DisjointCores {
         requires rules { length rules.now ≤ max_rules }
         requires few { self.old.ncores ≤ 4_096 }
         requires small { self.old.least ≤ self.old.ncores * max_weight }
-        ensures { self.new ≡ listing rules.now self.old (marked core.now) }
+        ensures { self.new ≡ listed_with rules.now self.old (marked core.now) }
     {
         if self.is_apart(rules, core) {
             self.ncores += 1;

@@ -6,9 +6,9 @@ ghost use Rattle.taskset.specs.Refusals.{max_rules};
 ghost use Rattle.taskset.specs.Views.{lists_of};
 ghost use Rattle.assignment.specs.Audsley.{problem};
 ghost use Rattle.relaxation.specs.Weights.{cost_most};
-ghost use Rattle.relaxation.specs.Listing.{max_remembered};
+ghost use Rattle.relaxation.specs.Disjoint.{max_remembered};
 ghost use Rattle.relaxation.specs.Exploring.{every_open};
-ghost use Rattle.relaxation.specs.Frontier.{max_open, least_of, lightest, taken, added, child, branched, FewOpen};
+ghost use Rattle.relaxation.specs.Frontier.{max_open, least_of, foremost, taken, added, child, branched, FewOpen};
 
 use crate::cores::Cores;
 use taskset::{MAX_RULES, System};
@@ -48,9 +48,9 @@ impl Open {
 
 impl Frontier {
     // The last one of those whose bound is the least.
-    fn lightest(&self) -> usize
+    fn foremost(&self) -> usize
         requires { self.now.n ≤ max_open }
-        ensures value { result ≡ lightest self.now self.now.n }
+        ensures value { result ≡ foremost self.now self.now.n }
         ensures in_bounds { result < max_open }
     {
         let mut found = 0;
@@ -71,7 +71,7 @@ impl Frontier {
         ensures rest { self.new ≡ taken self.old }
         ensures few { FewOpen self.new }
     {
-        let i = self.lightest();
+        let i = self.foremost();
         let least = self.sets[i];
         self.n -= 1;
         self.sets[i] = self.sets[self.n];

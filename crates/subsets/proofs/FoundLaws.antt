@@ -101,23 +101,23 @@ grown_next l c d x g (Some e) more =
 
 -- ---- where each task stands
 
-pub place_next : (order : List ℕ) → Distinct order → (places : List ℕ) (level i : ℕ) → level < length order → get_or order level 0 ≡ i
-    → i < length places → ((k : ℕ) → k < level → get_or places (get_or order k 0) 0 ≡ k)
-    → (k : ℕ) → k < level + 1 → get_or (set places i level) (get_or order k 0) 0 ≡ k
-place_next order distinct places level i inside at room placed =
-    below_more (λ k. get_or (set places i level) (get_or order k 0) 0 ≡ k) level
-    (λ k h. get_or-set_other places i (get_or order k 0) level 0 (λ e. distinct k level h inside (e ∙ sym at)) ∙ placed k h)
-    (ap (λ (j : ℕ). get_or (set places i level) j 0) at ∙ get_or-set_same places i level 0 room)
+pub level_next : (order : List ℕ) → Distinct order → (levels : List ℕ) (level i : ℕ) → level < length order → get_or order level 0 ≡ i
+    → i < length levels → ((k : ℕ) → k < level → get_or levels (get_or order k 0) 0 ≡ k)
+    → (k : ℕ) → k < level + 1 → get_or (set levels i level) (get_or order k 0) 0 ≡ k
+level_next order distinct levels level i inside at room placed =
+    below_more (λ k. get_or (set levels i level) (get_or order k 0) 0 ≡ k) level
+    (λ k h. get_or-set_other levels i (get_or order k 0) level 0 (λ e. distinct k level h inside (e ∙ sym at)) ∙ placed k h)
+    (ap (λ (j : ℕ). get_or (set levels i level) j 0) at ∙ get_or-set_same levels i level 0 room)
 
-pub place_rank : (n : ℕ) (order places : List ℕ) → IsOrder n order
-    → ((k : ℕ) → k < length order → get_or places (get_or order k 0) 0 ≡ k) → (i : ℕ) → i < n → get_or places i 0 ≡ rank order i
-place_rank n order places is placed i h =
+pub level_rank : (n : ℕ) (order levels : List ℕ) → IsOrder n order
+    → ((k : ℕ) → k < length order → get_or levels (get_or order k 0) 0 ≡ k) → (i : ℕ) → i < n → get_or levels i 0 ≡ rank order i
+level_rank n order levels is placed i h =
     let here = is.every i h in
-    ap (λ (j : ℕ). get_or places j 0) (sym (get_or-rank order i here)) ∙ placed (rank order i) here
+    ap (λ (j : ℕ). get_or levels j 0) (sym (get_or-rank order i here)) ∙ placed (rank order i) here
 
 -- ---- the number of the rules kept, rule by rule
 
-module _ (n : ℕ) (rules : List Rule) (order places : List ℕ) (ranked : (i : ℕ) → i < n → get_or places i 0 ≡ rank order i)
+module _ (n : ℕ) (rules : List Rule) (order levels : List ℕ) (ranked : (i : ℕ) → i < n → get_or levels i 0 ≡ rank order i)
     (k set : ℕ) (between : Between n (rule_at rules k)) (few : k < short) (e : set ≡ number_of k (keeping rules order)) where
   abbrev higher : ℕ
   higher = (rule_at rules k).higher.0
@@ -131,12 +131,12 @@ module _ (n : ℕ) (rules : List Rule) (order places : List ℕ) (ranked : (i : 
   pub kept-fits : set + shifted < 2 ^ 64
   kept-fits = omega (arith, e, number-lt k (keeping rules order), one_shl k 64 (omega arith), sets-le k (omega arith))
 
-  pub kept-more : get_or places higher 0 < get_or places lower 0 → set + shifted ≡ number_of (k + 1) (keeping rules order)
+  pub kept-more : get_or levels higher 0 < get_or levels lower 0 → set + shifted ≡ number_of (k + 1) (keeping rules order)
   kept-more h =
       let on : keeping rules order k ≡ true = lt-ltb _ _ (rw (ranked higher between.higher, ranked lower between.lower) at h) in
       rw (number_more k (keeping rules order), on) (omega (arith, e, one_shl k 64 (omega arith)))
 
-  pub kept_same : get_or places lower 0 ≤ get_or places higher 0 → set ≡ number_of (k + 1) (keeping rules order)
+  pub kept_same : get_or levels lower 0 ≤ get_or levels higher 0 → set ≡ number_of (k + 1) (keeping rules order)
   kept_same h =
       let off : keeping rules order k ≡ false = le-ltb _ _ (rw (ranked higher between.higher, ranked lower between.lower) at h) in
       rw (number_more k (keeping rules order), off) (omega (arith, e))

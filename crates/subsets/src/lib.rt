@@ -38,17 +38,17 @@ pub fn marks(set: usize) -> [bool; MAX_RULES]
     marks
 }
 
-// Where each task stands in the order of a search that has filled every level.
-fn places(tasks: usize, search: &Search) -> [usize; MAX_TASKS]
+// The level of each task, after a search that has filled every level.
+fn levels(tasks: usize, search: &Search) -> [usize; MAX_TASKS]
     requires few { tasks ≤ max_tasks }
     requires is_order { IsOrder tasks (order_of tasks search.now) }
     ensures { (i : ℕ) → i < tasks → get_or result i 0 ≡ rank (order_of tasks search.now) i }
 {
-    let mut places = [0; MAX_TASKS];
+    let mut levels = [0; MAX_TASKS];
     for level in 0..tasks {
-        places[search.order[level].0] = level;
+        levels[search.order[level].0] = level;
     }
-    places
+    levels
 }
 
 // The set of rules that this order keeps.
@@ -58,10 +58,10 @@ fn rules_kept(system: System<'_>, search: &Search) -> usize
     ensures { result ≡ number_of (length system.entry.rules.now)
         (keeping system.entry.rules.now (order_of (length system.entry.tasks.now) search.now)) }
 {
-    let places = places(system.tasks.len(), search);
+    let levels = levels(system.tasks.len(), search);
     let mut set = 0;
     for (k, rule) in system.rules.iter().enumerate() {
-        if places[rule.higher.0] < places[rule.lower.0] {
+        if levels[rule.higher.0] < levels[rule.lower.0] {
             set += 1 << k;
         }
     }

@@ -2,7 +2,7 @@
 use Rattle.std.proofs.Common.{arith, ◌∙◌, ap, ℕ, Bool}
 use Rattle.taskset.specs.Views.{lists_of}
 use Rattle.assignment.specs.Audsley.{problem}
-use Rattle.relaxation.specs.Listing.{listed_in}
+use Rattle.relaxation.specs.Disjoint.{listed_in}
 use Rattle.relaxation.specs.Exploring.{at_start}
 use Rattle.relaxation.proofs.ExploringSteps.{restores}
 use Rattle.relaxation.proofs.ExploredSteps.{explored_is, explored_cost_is}

@@ -4,7 +4,7 @@ use Rattle.sets.specs.Numbered.{number_none}
 use Rattle.subsets.specs.Found.{order_of}
 use Rattle.subsets.proofs.FoundLaws.{kept-fits, kept-more, kept_same}
 use Rattle.subsets.proofs.rules_kept.Goals as goal
-use Rattle.subsets.proofs.rules_kept.Goals.{then-places-rule, else-places-rule}
+use Rattle.subsets.proofs.rules_kept.Goals.{then-levels-rule, else-levels-rule}
 
 pub loop-k-init : goal.loop-k-init
 loop-k-init c = sym (number_none _)
@@ -15,7 +15,7 @@ overflow_add-set c =
     let n = length c.args.system.tasks.now in
     omega (
       arith,
-      kept-fits n c.args.system.rules.now (order_of n c.args.search.now) c.places-places.result c.places-places.ensures at.k at.set
+      kept-fits n c.args.system.rules.now (order_of n c.args.search.now) c.levels-levels.result c.levels-levels.ensures at.k at.set
           (c.args.system.sound.indices at.k c.loop-k-test.true) (omega arith) at.invariant,
     )
 
@@ -26,13 +26,13 @@ loop-k-preserved c =
     let rules = c.args.system.rules.now in
     let order = order_of n c.args.search.now in
     let between = c.args.system.sound.indices at.k c.loop-k-test.true in
-    elim c.if-places-rule.branch [
-      | then-places-rule w ↦
+    elim c.if-levels-rule.branch [
+      | then-levels-rule w ↦
           w.set-is
-          ∙ kept-more n rules order c.places-places.result c.places-places.ensures at.k at.set between (omega arith) at.invariant
-          w.if-places-rule.true
-      | else-places-rule w ↦
+          ∙ kept-more n rules order c.levels-levels.result c.levels-levels.ensures at.k at.set between (omega arith) at.invariant
+          w.if-levels-rule.true
+      | else-levels-rule w ↦
           w.set-is
-          ∙ kept_same n rules order c.places-places.result c.places-places.ensures at.k at.set between (omega arith) at.invariant
-          w.if-places-rule.false
+          ∙ kept_same n rules order c.levels-levels.result c.levels-levels.ensures at.k at.set between (omega arith) at.invariant
+          w.if-levels-rule.false
     ]

@@ -2,8 +2,8 @@
 use Rattle.std.proofs.Common.{sym, not, ◌&&◌, le_antisymm}
 use Rattle.sets.specs.Choice.{T→true}
 use Rattle.sets.specs.Marks.{marked}
-use Rattle.relaxation.specs.Listing.{included}
-use Rattle.relaxation.proofs.ListingSteps.{all_none, all_stops, all_goes}
+use Rattle.relaxation.specs.Disjoint.{included}
+use Rattle.relaxation.proofs.DisjointSteps.{all_none, all_stops, all_goes}
 use Rattle.relaxation.proofs.cores.included.Goals as goal
 
 pub loop-k-init : goal.loop-k-init

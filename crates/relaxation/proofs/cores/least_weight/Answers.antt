@@ -1,7 +1,7 @@
 -- A weight is the least so far where the rule is one of these and lighter than those before. Assumes nothing.
 use Rattle.std.proofs.Common.{◌∙◌, true, false, arith, le_antisymm}
 use Rattle.sets.specs.Marks.{marked}
-use Rattle.relaxation.proofs.ListingSteps.{least_none, least_small, least_next}
+use Rattle.relaxation.proofs.DisjointSteps.{least_none, least_small, least_next}
 use Rattle.relaxation.proofs.cores.least_weight.Goals as goal
 use Rattle.relaxation.proofs.cores.least_weight.Goals.{then-these-k, else-these-k}
 

@@ -1,6 +1,6 @@
 -- Every rule is looked at. Assumes nothing.
 use Rattle.std.proofs.Common.{true, false, sym, subst, le_antisymm, rules, List, ℕ, ◌+◌}
-use Rattle.relaxation.proofs.ListingSteps.{NumbersGiven, given_none, given_more, given_done}
+use Rattle.relaxation.proofs.DisjointSteps.{NumbersGiven, given_none, given_more, given_done}
 use Rattle.relaxation.proofs.cores.with_number.Goals as goal
 use Rattle.relaxation.proofs.cores.with_number.Goals.{then-core-k, else-core-k}
 

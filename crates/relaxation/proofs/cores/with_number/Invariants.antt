@@ -1,5 +1,5 @@
 -- The rules before k have their numbers.
-use Rattle.relaxation.proofs.ListingSteps.{NumbersGiven}
+use Rattle.relaxation.proofs.DisjointSteps.{NumbersGiven}
 use Rattle.relaxation.proofs.cores.with_number.Given as goal
 
 abbrev pub invariant-loop-k : goal.invariant-loop-k

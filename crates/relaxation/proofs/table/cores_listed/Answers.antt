@@ -4,7 +4,7 @@ use Rattle.sets.specs.Marks.{marked}
 use Rattle.taskset.specs.Views.{lists_of}
 use Rattle.assignment.specs.Audsley.{problem}
 use Rattle.subsets.proofs.SubsetsLaws.{set-lt}
-use Rattle.relaxation.specs.Listing.{listing}
+use Rattle.relaxation.specs.Disjoint.{listed_with}
 use Rattle.relaxation.specs.Table.{solved_set, cores_listed}
 use Rattle.relaxation.proofs.TableSteps.{all_sets, one_set, core_same, cores_none, cores_next, cores_count, cores_small}
 use Rattle.relaxation.proofs.table.cores_listed.Goals as goal
@@ -37,7 +37,7 @@ loop-set-preserved c =
       | then-is_core w ↦
           w.listed-is
           ∙ w.add.ensures
-          ∙ ap (listing c.args.system.rules.now at.listed) w.marks.ensures
+          ∙ ap (listed_with c.args.system.rules.now at.listed) w.marks.ensures
           ∙ cores_next p at.set at.listed at.invariant true (sym known ∙ sym c.is_core.ensures ∙ w.if-is_core.true)
       | else-is_core w ↦
           w.listed-is ∙ cores_next p at.set at.listed at.invariant false (sym known ∙ sym c.is_core.ensures ∙ w.if-is_core.false)

@@ -1,6 +1,6 @@
 -- A core is remembered, if there is room. Assumes nothing.
 use Rattle.std.proofs.Common.{refl, lt-ltb, le-ltb}
-use Rattle.relaxation.specs.Listing.{remembered}
+use Rattle.relaxation.specs.Disjoint.{remembered}
 use Rattle.relaxation.proofs.cores.Cores.add.Goals as goal
 
 pub returns-then-self-lt-MAX_REMEMBERED-clause-value : goal.returns-then-self-lt-MAX_REMEMBERED-clause-value

@@ -1,9 +1,9 @@
 -- Every core that is kept whole is listed, as far as it shares no rule with those before. Assumes nothing.
 use Rattle.std.proofs.Common.{true, false, ◌∙◌, ap, sym, arith, le_antisymm}
 use Rattle.sets.specs.Marks.{marked}
-use Rattle.relaxation.specs.Listing.{max_remembered, listed_in}
-use Rattle.relaxation.proofs.ListingLaws.{listed_in_count, listed_in_small, listed_in_bound}
-use Rattle.relaxation.proofs.ListingSteps.{listed_none, listed_next}
+use Rattle.relaxation.specs.Disjoint.{max_remembered, listed_in}
+use Rattle.relaxation.proofs.DisjointLaws.{listed_in_count, listed_in_small, listed_in_bound}
+use Rattle.relaxation.proofs.DisjointSteps.{listed_none, listed_next}
 use Rattle.relaxation.proofs.cores.Cores.listed_in.Goals as goal
 use Rattle.relaxation.proofs.cores.Cores.listed_in.Goals.{then-included, else-included}
 

@@ -1,7 +1,7 @@
 -- The first i cores are looked at.
 use Rattle.std.proofs.Common.{◌≡◌}
 use Rattle.sets.specs.Marks.{marked}
-use Rattle.relaxation.specs.Listing.{listed_in}
+use Rattle.relaxation.specs.Disjoint.{listed_in}
 use Rattle.relaxation.proofs.cores.Cores.listed_in.Given as goal
 
 abbrev pub invariant-loop-i : goal.invariant-loop-i

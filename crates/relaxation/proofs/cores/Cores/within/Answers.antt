@@ -1,8 +1,8 @@
 -- From the last core down: one that is kept whole, or the next. Assumes nothing.
 use Rattle.std.proofs.Common.{sym, arith}
 use Rattle.sets.specs.Marks.{marked}
-use Rattle.relaxation.specs.Listing.{included, core_at}
-use Rattle.relaxation.proofs.ListingSteps.{found_here, found_below, found_none}
+use Rattle.relaxation.specs.Disjoint.{included, core_at}
+use Rattle.relaxation.proofs.DisjointSteps.{found_here, found_below, found_none}
 use Rattle.relaxation.proofs.cores.Cores.within.Goals as goal
 
 pub returns-then-included : goal.returns-then-included

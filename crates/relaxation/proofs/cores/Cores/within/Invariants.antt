@@ -2,7 +2,7 @@
 use Rattle.std.proofs.Common.{◌≡◌, ◌≤◌}
 use Rattle.sets.specs.Bounded.{greatest}
 use Rattle.sets.specs.Marks.{marked}
-use Rattle.relaxation.specs.Listing.{included, core_at}
+use Rattle.relaxation.specs.Disjoint.{included, core_at}
 use Rattle.relaxation.proofs.cores.Cores.within.Given as goal
 
 abbrev pub invariant-loop-i : goal.invariant-loop-i

@@ -2,7 +2,7 @@
 use Rattle.std.proofs.Common.{sym, not, ◌&&◌, eqb, get_or, le_antisymm}
 use Rattle.sets.specs.Choice.{T→true}
 use Rattle.sets.specs.Marks.{marked}
-use Rattle.relaxation.proofs.ListingSteps.{all_none, all_stops, all_goes}
+use Rattle.relaxation.proofs.DisjointSteps.{all_none, all_stops, all_goes}
 use Rattle.relaxation.proofs.cores.DisjointCores.is_apart.Goals as goal
 
 pub loop-k-init : goal.loop-k-init

@@ -2,7 +2,7 @@
 use Rattle.std.proofs.Common.{T}
 use Rattle.sets.specs.Bounded.{all}
 use Rattle.sets.specs.Marks.{marked}
-use Rattle.relaxation.specs.Listing.{fresh_at}
+use Rattle.relaxation.specs.Disjoint.{fresh_at}
 use Rattle.relaxation.proofs.cores.DisjointCores.is_apart.Given as goal
 
 abbrev pub invariant-loop-k : goal.invariant-loop-k

@@ -2,7 +2,7 @@
 use Rattle.std.proofs.Common.{◌∙◌, arith}
 use Rattle.taskset.specs.Views.{lists_of}
 use Rattle.assignment.specs.Audsley.{problem}
-use Rattle.relaxation.proofs.ListingSteps.{found_under}
+use Rattle.relaxation.proofs.DisjointSteps.{found_under}
 use Rattle.relaxation.proofs.ExploringSteps.{looked_none, looked_solves, looked_branches}
 use Rattle.relaxation.proofs.explore.Exploring.look.Goals as goal
 

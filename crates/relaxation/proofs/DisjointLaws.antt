@@ -18,10 +18,10 @@ use Rattle.assignment.specs.Decision.{feasible_fewer}
 use Rattle.relaxation.specs.declared.cores.DisjointCores.{DisjointCores}
 use Rattle.relaxation.specs.declared.cores.Cores.{Cores}
 use Rattle.relaxation.specs.Weights.{weight_at, others, cost_of, least_weight}
-use Rattle.relaxation.specs.Listing.{none_listed, fresh_at, listing, included, listed_in, core_at}
+use Rattle.relaxation.specs.Disjoint.{none_listed, fresh_at, listed_with, included, listed_in, core_at}
 use Rattle.relaxation.specs.Relaxes.{in_core}
 use Rattle.relaxation.proofs.Claims.{Relaxable, IsCore, Remembers, ListsCores, IsFloor}
-use Rattle.relaxation.proofs.ListingSteps.{least_small}
+use Rattle.relaxation.proofs.DisjointSteps.{least_small}
 
 -- ---- the least weight of some rules
 
@@ -113,8 +113,8 @@ module _ (rules : List Rule) (s : DisjointCores) (core : ℕ → Bool) where
       (r.0, r.1, u.0, λ z. u.1 (true→T _ (eq-eqb (number s r.0) 0 z)))
 
   -- what holds of either holds of what is listed then
-  listing_by : (P : DisjointCores → Type 0) → (Apart → P with_core) → (Shares → P s) → P (listing rules s core)
-  unfolding listing
+  listing_by : (P : DisjointCores → Type 0) → (Apart → P with_core) → (Shares → P s) → P (listed_with rules s core)
+  unfolding listed_with
   listing_by P listed same = go (all (length rules) (fresh_at s core)) refl
     where
       go : (b : Bool) → all (length rules) (fresh_at s core) ≡ b → P (pick b with_core s)
@@ -126,13 +126,13 @@ module _ (rules : List Rule) (s : DisjointCores) (core : ℕ → Bool) where
   number_with k h = get_or-table max_rules (λ k. pick (core k) (s.ncores + 1) (get_or s.numbers k 0)) 0 k h
 
   -- one more at most, and each weighs no more than there is
-  listing_more : s.ncores ≤ (listing rules s core).ncores
+  listing_more : s.ncores ≤ (listed_with rules s core).ncores
   listing_more = listing_by (λ r. s.ncores ≤ r.ncores) (λ f. omega arith) (λ f. le_refl s.ncores)
 
-  pub listing_count : (listing rules s core).ncores ≤ s.ncores + 1
+  pub listing_count : (listed_with rules s core).ncores ≤ s.ncores + 1
   listing_count = listing_by (λ r. r.ncores ≤ s.ncores + 1) (λ f. le_refl (s.ncores + 1)) (λ f. omega arith)
 
-  pub listing_small : s.least ≤ s.ncores * max_weight → (listing rules s core).least ≤ (listing rules s core).ncores * max_weight
+  pub listing_small : s.least ≤ s.ncores * max_weight → (listed_with rules s core).least ≤ (listed_with rules s core).ncores * max_weight
   listing_small h =
       listing_by (λ r. r.least ≤ r.ncores * max_weight)
       (λ f. let most = least_small rules core (length rules) in omega (arith, most, h))
@@ -155,14 +155,14 @@ module _ (rules : List Rule) where
   module _ (sets : List (List Bool)) (kept : ℕ → Bool) where
     -- one core more: it is listed, or it is not kept whole and nothing changes
     listed_in_by : (n : ℕ) (P : DisjointCores → Type 0)
-        → (Subset (length rules) (marked (get_or sets n [])) kept → P (listing rules (listed_in rules sets kept n) (marked (get_or sets n []))))
+        → (Subset (length rules) (marked (get_or sets n [])) kept → P (listed_with rules (listed_in rules sets kept n) (marked (get_or sets n []))))
         → P (listed_in rules sets kept n)
         → P (listed_in rules sets kept (suc n))
     unfolding listed_in
     listed_in_by n P more same = go (included rules (marked (get_or sets n [])) kept) refl
       where
         go : (b : Bool) → included rules (marked (get_or sets n [])) kept ≡ b
-            → P (pick b (listing rules (listed_in rules sets kept n) (marked (get_or sets n []))) (listed_in rules sets kept n))
+            → P (pick b (listed_with rules (listed_in rules sets kept n) (marked (get_or sets n []))) (listed_in rules sets kept n))
         go true e = more (included-subset (marked (get_or sets n [])) kept e)
         go false e = same
 
@@ -202,7 +202,7 @@ module _ (rules : List Rule) where
         (λ k h. unless_of (core k) (eqb (number none_listed k) 0) (λ t. true→T _ (eq-eqb (number none_listed k) 0 (no_number k)))))
 
     listed_one : ((k : ℕ) → k < length rules → T (kept k)) → 1 ≤ (listed_in rules sets kept 1).ncores
-    unfolding listing listed_in
+    unfolding listed_with listed_in
     listed_one whole =
         rw (included_of (marked (get_or sets 0 [])) kept (λ k h t. whole k h), none_apart (marked (get_or sets 0 []))) (omega arith)
 
@@ -255,7 +255,7 @@ module _ (p : Problem) (fit : Relaxable p) where
   none_lists =
       record {
         long = length-replicate {A = ℕ} max_rules 0;
-        numbered = λ k. omega (arith, no_number k);
+        numbers = λ k. omega (arith, no_number k);
         core = λ j l h. absurd (omega (arith, l, h));
         some = λ j l h. absurd (omega (arith, l, h));
         least = sym (sum-none every (λ j. least_weight p.rules (length p.rules) (in_core none_listed.numbers (j + 1))));
@@ -286,7 +286,7 @@ module _ (p : Problem) (fit : Relaxable p) where
       next_old j l h = fun_ext (λ k. rw (next_at k) (eqb_old (A k) (number s k) s.ncores j (zero_at k) l h))
 
       next_new : in_core next (s.ncores + 1) ≡ A
-      next_new = fun_ext (λ k. rw (next_at k) (eqb_new (A k) (number s k) s.ncores (is.numbered k)))
+      next_new = fun_ext (λ k. rw (next_at k) (eqb_new (A k) (number s k) s.ncores (is.numbers k)))
 
       next_cores : (j : ℕ) → 1 ≤ j → (j ≤ s.ncores) ⊎ (j ≡ s.ncores + 1) → IsCore p (in_core next j)
       next_cores j l (inl h) = subst (IsCore p) (sym (next_old j l h)) (is.core j l h)
@@ -318,17 +318,17 @@ module _ (p : Problem) (fit : Relaxable p) where
       with_lists =
           record {
             long = next-long;
-            numbered = λ k. rw (next_at k) (pick_most (A k) (number s k) s.ncores (is.numbered k));
+            numbers = λ k. rw (next_at k) (pick_most (A k) (number s k) s.ncores (is.numbers k));
             core = λ j l h. next_cores j l (one_of j s.ncores h);
             some = λ j l h. next_some j l (one_of j s.ncores h);
             least = next_least;
           }
 
-    pub listing_lists : ListsCores p (listing p.rules s A)
+    pub listing_lists : ListsCores p (listed_with p.rules s A)
     listing_lists = listing_by p.rules s A (ListsCores p) with_lists (λ f. is)
 
     -- a rule of the core has a number then
-    pub listing_meets : (k : ℕ) × (k < length p.rules) × T (A k) × (number (listing p.rules s A) k ≡ 0 → ⊥)
+    pub listing_meets : (k : ℕ) × (k < length p.rules) × T (A k) × (number (listed_with p.rules s A) k ≡ 0 → ⊥)
     listing_meets =
         listing_by p.rules s A (λ r. (k : ℕ) × (k < length p.rules) × T (A k) × (number r k ≡ 0 → ⊥))
         (λ apart.
@@ -347,7 +347,7 @@ module _ (p : Problem) (fit : Relaxable p) where
 
   -- a number once given stays
   pub listing_stays : (s : DisjointCores) (A : ℕ → Bool) (k : ℕ) → k < length p.rules → (number s k ≡ 0 → ⊥)
-      → number (listing p.rules s A) k ≡ number s k
+      → number (listed_with p.rules s A) k ≡ number s k
   listing_stays s A k h f =
       listing_by p.rules s A (λ r. number r k ≡ number s k)
       (λ apart.
@@ -433,7 +433,7 @@ module _ (p : Problem) (fit : Relaxable p) where
           let before = is.least K t in
           omega (arith, more, least, before)
 
-    pub listing_floors : Floors p kept (listing p.rules s A)
+    pub listing_floors : Floors p kept (listed_with p.rules s A)
     listing_floors =
         listing_by p.rules s A (Floors p kept) (λ apart. record { within = next_within apart; least = floor_next apart }) (λ f. is)
 

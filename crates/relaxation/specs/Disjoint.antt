@@ -23,8 +23,8 @@ fresh_at s core k = not (core k && not (eqb (get_or s.numbers k 0) 0))
 
 module _ (rules : List Rule) where
   -- then it is listed, with the next number
-  unfoldable pub listing : DisjointCores → (ℕ → Bool) → DisjointCores
-  listing s core =
+  unfoldable pub listed_with : DisjointCores → (ℕ → Bool) → DisjointCores
+  listed_with s core =
       pick (all (length rules) (fresh_at s core))
       (record {
         numbers = with_number s.numbers core (s.ncores + 1);
@@ -43,7 +43,7 @@ module _ (rules : List Rule) where
   listed_in cores kept (suc n) =
       let s = listed_in cores kept n in
       let core = marked (get_or cores n []) in
-      pick (included core kept) (listing s core) s
+      pick (included core kept) (listed_with s core) s
 
 -- ---- the cores that were found
 

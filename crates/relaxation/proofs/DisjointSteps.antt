@@ -8,7 +8,7 @@ use Rattle.taskset.specs.Refusals.{max_rules, max_weight}
 use Rattle.taskset.specs.declared.Rule.{Rule}
 use Rattle.relaxation.specs.Weights.{weight_at, least_weight}
 use Rattle.relaxation.specs.declared.cores.DisjointCores.{DisjointCores}
-use Rattle.relaxation.specs.Listing.{none_listed, with_number, listing, included, listed_in}
+use Rattle.relaxation.specs.Disjoint.{none_listed, with_number, listed_with, included, listed_in}
 
 -- a loop that stops where something holds: nothing yet, it holds at i, it does not
 pub all_none : (p : ℕ → Bool) → T (all 0 p)
@@ -112,6 +112,6 @@ module _ (rules : List Rule) (sets : List (List Bool)) (kept : ℕ → Bool) whe
   listed_none = refl
 
   pub listed_next : (n : ℕ) (s : DisjointCores) → s ≡ listed_in rules sets kept n → (b : Bool) → included rules (marked (get_or sets n [])) kept ≡ b
-      → pick b (listing rules s (marked (get_or sets n []))) s ≡ listed_in rules sets kept (n + 1)
+      → pick b (listed_with rules s (marked (get_or sets n []))) s ≡ listed_in rules sets kept (n + 1)
   unfolding listed_in
   listed_next n s e b t = rw (add-one n, ← e, t) refl

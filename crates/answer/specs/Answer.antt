@@ -4,10 +4,11 @@ use Rattle.lines.specs.Decimal.{tab}
 use Rattle.lines.specs.Line as written
 use Rattle.taskset.specs.Numbering.{number}
 use Rattle.taskset.specs.Model.{Lists}
+use Rattle.taskset.specs.Outcome.{Outcome}
 use Rattle.text.specs.declared.RefusedAt.{RefusedAt}
 use Rattle.text.specs.Text.{Read, reading}
 use Rattle.verdict.specs.Verdict.{deciding}
-use Rattle.listing.specs.Listing.{Outcome, outcome}
+use Rattle.listing.specs.Listing.{outcome}
 
 -- a text that is read is solved and listed; one that is refused is refused for its reason
 abbrev pub outcome_by : Lists → Result (Unit {0}) RefusedAt → Outcome

@@ -9,11 +9,12 @@ use Rattle.taskset.specs.declared.refusals.Refusal.{Refusal}
 use Rattle.taskset.specs.Numbering.{number}
 use Rattle.taskset.specs.RefusalLaws.{number_small}
 use Rattle.taskset.specs.Model.{Lists}
+use Rattle.taskset.specs.Outcome.{Outcome, shown_as, buffer_after}
 use Rattle.text.specs.declared.RefusedAt.{RefusedAt}
 use Rattle.text.specs.Text.{at_no_line, reading}
 use Rattle.verdict.specs.declared.Verdict.{Verdict}
 use Rattle.verdict.specs.Verdict.{deciding}
-use Rattle.listing.specs.Listing.{listing, Outcome, outcome, fitted, shown_as, buffer_after, max_listing}
+use Rattle.listing.specs.Listing.{listing, outcome, fitted, max_listing}
 use Rattle.listing.proofs.GivesLaws.{RefusedOrListed, refusal, verdict}
 use Rattle.answer.specs.Answer.{answer_to, line_of, answered, host_number, bad, bad_line, printed, report, max_bad}
 use Rattle.answer.specs.Host.{heard_in, TextGives, HostGets}

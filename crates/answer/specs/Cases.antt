@@ -5,6 +5,7 @@ use Rattle.std.specs.Prelude.{◌≡◌, refl, true, false, ℕ}
 use Rattle.std.proofs.Common.{subst}
 use mathlib.Core.List.{List, [], ◌∷◌, ◌++◌, map, flat_map}
 use Rattle.sets.specs.Bounded.{all, greatest, count}
+use Rattle.sets.specs.Collected.{collected}
 use Rattle.sets.specs.Sum.{sum}
 use Rattle.sets.specs.Maximum.{maximum}
 use Rattle.lines.specs.Decimal.{are_digits, value_after, is_number, digits_in, decimal}
@@ -25,7 +26,7 @@ use Rattle.assignment.specs.Audsley.{unassigned, ready, may_take, fill, feasible
 use Rattle.verdict.specs.Core.{tried, cut_of}
 use Rattle.verdict.specs.Verdict.{cored, verdict_on, deciding}
 use Rattle.verdict.specs.Solving.{assign_valid}
-use Rattle.listing.specs.Listing.{lines_below, listing_with, listing}
+use Rattle.listing.specs.Listing.{listing_with, listing}
 use Rattle.samples.specs.Sheets.{above, sheet, sheet_a, sheet_b, sharing, between, sheet_k4, sheet_k6}
 use Rattle.answer.specs.Answer.{report}
 
@@ -88,7 +89,7 @@ heard_whole l e = subst Sound e (heard_sound no_lists none_sound (calls_of l))
 
 pub cases : Cases
 unfolding report reading read_from parts asked has_form are_numbers is_number are_digits value_after
-    deciding lines_below flat_map line lines_of listing_with decimal digits_in verdict_on cut_of tried feasible fill may_take ready
+    deciding collected flat_map line lines_of listing_with decimal digits_in verdict_on cut_of tried feasible fill may_take ready
     unassigned unassignable greatest all timing_by response_of window_of window_from demand blocking_of interference sum maximum count hear heard
     refusal_by row_refusals index_refusals weight_refusals section_on longest_section
 cases =

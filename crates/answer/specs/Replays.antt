@@ -6,6 +6,7 @@ use Rattle.taskset.specs.declared.Call.TheVariants.{AddTask, AddRule}
 use Rattle.taskset.specs.Model.{Lists, no_lists, Sound}
 use Rattle.taskset.specs.Numbers.{task_numbers, rule_numbers}
 use Rattle.taskset.specs.Holding.{none_sound, heard_sound}
+use Rattle.taskset.specs.Outcome.{Outcome, shown_as, buffer_after}
 use Rattle.lines.specs.Decimal.{feed}
 use Rattle.lines.specs.Parts.{parts}
 use Rattle.text.specs.declared.RefusedAt.{RefusedAt}
@@ -16,7 +17,7 @@ use Rattle.verdict.specs.Verdict.{deciding}
 use Rattle.replay.specs.Calls.{call_numbers, Whole, Words, Asked}
 use Rattle.replay.specs.Replaying.{every_list}
 use Rattle.replay.specs.Theorem.{replay_decides}
-use Rattle.listing.specs.Listing.{listing, Outcome, shown_as, fitted, buffer_after, max_listing}
+use Rattle.listing.specs.Listing.{listing, fitted, max_listing}
 use Rattle.listing.proofs.GivesLaws.{RefusedOrListed, refusal, verdict, fitted_either, decided_shown, decided_either, either_gives}
 use Rattle.listing.proofs.Short.{deciding_short}
 use Rattle.answer.specs.Answer.{outcome_by, answer_to, line_of, answered}

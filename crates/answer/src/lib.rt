@@ -5,7 +5,8 @@
 ghost use Rattle.std.specs.Prelude.{◌≡◌, ◌≤◌, length, take, IfOk};
 ghost use Rattle.sets.specs.Onto.{onto};
 ghost use Rattle.taskset.specs.Numbering.{number};
-ghost use Rattle.listing.specs.Listing.{fitted, buffer_after, max_listing};
+ghost use Rattle.taskset.specs.Outcome.{buffer_after};
+ghost use Rattle.listing.specs.Listing.{fitted, max_listing};
 ghost use Rattle.answer.specs.Answer.{answer_to, line_of, answered, bad_line, report, max_bad};
 ghost use Rattle.answer.specs.Host.{TextGives};
 

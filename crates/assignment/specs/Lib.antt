@@ -1,6 +1,7 @@
 pub mod Orders
 pub mod Canonical
 pub mod Audsley
+pub mod Cores
 pub mod LateTasks
 pub mod Search
 pub mod LevelWindow

@@ -1,6 +1,7 @@
 -- Document 01, "Orders and cores": orders of n tasks, the rules an order keeps, and validity, first for any meaning of a
 -- deadline met, then for document 01's own. Assumes nothing.
 use Rattle.std.specs.Prelude.{Bool, true, false, List, ℕ, ◌+◌, ◌≤◌, ◌<◌, T, ltb, length, get_or}
+use Rattle.sets.specs.Bounded.{without, others}
 use Rattle.sets.specs.Rank.{rank, Member, Distinct}
 use Rattle.taskset.specs.declared.Task.{Task}
 use Rattle.taskset.specs.declared.Rule.{Rule}
@@ -48,3 +49,14 @@ ValidOrder l active order = Valid (length l.tasks) l.rules (MeetsDeadline l.task
 -- there is one
 abbrev pub SomeOrder : Lists → (ℕ → Bool) → Type 0
 SomeOrder l active = (order : List ℕ) × ValidOrder l active order
+
+-- ---- sets of rules that can't be had together
+
+-- a core: no order keeps all of it and meets every deadline, and without any one of its rules some order does
+pub record UnschedulabilityCore (l : Lists) (A : ℕ → Bool) : Type 0 where
+  pub clash : SomeOrder l A → ⊥
+  pub needed : (k : ℕ) → k < length l.rules → T (A k) → SomeOrder l (without A k)
+
+-- dropping these rules lets a valid order through
+abbrev pub Works : Lists → (ℕ → Bool) → Type 0
+Works l dropped = SomeOrder l (others dropped)

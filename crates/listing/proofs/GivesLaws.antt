@@ -2,6 +2,7 @@
 use Rattle.std.specs.Prelude.{Result, Ok, Err, IfOk, ◌≡◌, refl, Bool, true, false, List, [], ◌⊎◌, ℕ, ◌≤◌, ◌<◌, leb, length}
 use Rattle.std.proofs.Common.{sym, ap, subst, inl, inr, arith}
 use Rattle.sets.specs.Choice.{pick, lt_or_le}
+use Rattle.sets.specs.Collected.{collected_none, collected-some}
 use Rattle.sets.specs.Onto.{onto}
 use Rattle.taskset.specs.declared.refusals.Refusal.{Refusal}
 use Rattle.taskset.specs.declared.refusals.Refusal.TheVariants.{ShortBuffer, NoTasks}
@@ -9,6 +10,7 @@ use Rattle.taskset.specs.declared.TaskSet.{TaskSet}
 use Rattle.taskset.specs.Model.{Lists, Sound}
 use Rattle.taskset.specs.Adding.{lists}
 use Rattle.taskset.specs.Passing.{Sized}
+use Rattle.taskset.specs.Outcome.{Outcome, shown_as, buffer_after}
 use Rattle.assignment.specs.LateTasks.{unassignable}
 use Rattle.assignment.proofs.LateLaws.{left_inside, late_tasks}
 use Rattle.verdict.specs.declared.Finding.{Finding}
@@ -19,10 +21,9 @@ use Rattle.verdict.specs.Verdict.{deciding, solving}
 use Rattle.verdict.specs.Solving.{deciding_13, solving_cases}
 use Rattle.verdict.specs.Explained.{deciding_correct}
 use Rattle.verdict.specs.OneOrderLaws.{deciding_one}
-use Rattle.listing.specs.Listing.{late_line, late_for, listing, Outcome, outcome, fitted, shown_as, buffer_after}
+use Rattle.listing.specs.Listing.{late_line, late_for, listing, outcome, fitted}
 use Rattle.listing.specs.LateLines.{EmptyCore, LateLines}
 use Rattle.listing.specs.Gives.{Gives}
-use Rattle.listing.specs.ListingLaws.{lines_none, lines-some}
 use Rattle.listing.proofs.Showing.{outcome_shown}
 
 -- ---- the late lines
@@ -36,7 +37,7 @@ module _ (l : Lists) (v : Verdict) (sound : Sound l) (ok : Correct l v) where
   unchanged (Err k) e full = refl
   unchanged (Ok Order) e full = refl
   unchanged (Ok Core) e full =
-      lines_none left (late_line l.tasks left) (length l.tasks)
+      collected_none left (late_line l.tasks left) (length l.tasks)
       (λ i h t. full (e, (ok.empty e).1 ((late_tasks l sound).anyone.0 (i, t))))
 
   pub late_lines_lem : LateLines l v (late_for l v.answer)
@@ -46,7 +47,7 @@ module _ (l : Lists) (v : Verdict) (sound : Sound l) (ok : Correct l v) where
         unchanged = unchanged v.answer refl;
         some = λ empty.
             let one = (late_tasks l sound).anyone.1 ((ok.empty empty.0).0 empty.1) in
-            rw empty.0 (lines-some left (late_line l.tasks left) (length l.tasks) one.0 (left_inside l one.0 one.1) one.1);
+            rw empty.0 (collected-some left (late_line l.tasks left) (length l.tasks) one.0 (left_inside l one.0 one.1) one.1);
         who = late_tasks l sound;
       }
 

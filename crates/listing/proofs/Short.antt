@@ -6,6 +6,7 @@ use mathlib.Core.List.{List, [], ◌∷◌, ◌++◌, flat_map, append-nil}
 use Rattle.std.proofs.Math.ListN.{get_or-map, get_or-eq_default}
 use Rattle.sets.specs.Choice.{pick, lt_or_le}
 use Rattle.sets.specs.Bounded.{without}
+use Rattle.sets.specs.Collected.{collected, collected_few, collected_none}
 use Rattle.sets.specs.Marks.{marked}
 use Rattle.sets.specs.Flat.{flat_snoc}
 use Rattle.lines.specs.Decimal.{tab}
@@ -18,6 +19,7 @@ use Rattle.taskset.specs.declared.TaskSet.{TaskSet}
 use Rattle.taskset.specs.Model.{Lists, task_at, Sound}
 use Rattle.taskset.specs.Adding.{lists}
 use Rattle.taskset.specs.Passing.{Sized}
+use Rattle.taskset.specs.Outcome.{Outcome}
 use Rattle.response.specs.Equation.{demand}
 use Rattle.response.specs.TimingLaws.{reported-le}
 use Rattle.assignment.specs.Search.{index}
@@ -29,10 +31,10 @@ use Rattle.verdict.specs.Verdict.{deciding, solving}
 use Rattle.verdict.specs.Correct.{order_given, Correct}
 use Rattle.verdict.specs.Solving.{solving_cases}
 use Rattle.verdict.specs.Explained.{deciding_correct}
-use Rattle.listing.specs.Listing.{level_line, rule_line, late_line, lines_below, lines_for, late_for, word, late_head, listing_with, listing}
-use Rattle.listing.specs.Listing.{Outcome, outcome, max_listing}
+use Rattle.listing.specs.Listing.{level_line, rule_line, late_line, lines_for, late_for, word, late_head, listing_with, listing}
+use Rattle.listing.specs.Listing.{outcome, max_listing}
 use Rattle.listing.specs.LateLines.{EmptyCore}
-use Rattle.listing.specs.ListingLaws.{lines_few, lines_none, listing_size}
+use Rattle.listing.specs.ListingLaws.{listing_size}
 use Rattle.listing.proofs.GivesLaws.{late_lines_lem, RefusedOrListed, refusal, verdict, decided_either}
 
 -- ---- lines
@@ -68,17 +70,17 @@ line_short head ks ns some d = omega (arith, line_long head ns some, numbers_sho
 
 -- lines of at most b bytes
 lines_short : (b : ℕ) (head : List ℕ) (isIn : ℕ → Bool) (nums : ℕ → List ℕ) (n : ℕ) → ((k : ℕ) → k < n → length (line head (nums k)) ≤ b)
-    → let lines = lines_below isIn nums n in length (lines_of head lines) ≤ b * length lines
-unfolding lines_below lines_of flat_map
+    → let lines = collected isIn nums n in length (lines_of head lines) ≤ b * length lines
+unfolding collected lines_of flat_map
 lines_short b head isIn nums zero each = omega arith
 lines_short b head isIn nums (suc n) each =
     go (isIn n) (each n (omega arith)) (lines_short b head isIn nums n (λ k h. each k (omega arith)))
   where
     go : (c : Bool) → length (line head (nums n)) ≤ b
-        → length (lines_of head (lines_below isIn nums n)) ≤ b * length (lines_below isIn nums n)
-        → let lines = lines_below isIn nums n ++ pick c (nums n ∷ []) [] in length (lines_of head lines) ≤ b * length lines
+        → length (lines_of head (collected isIn nums n)) ≤ b * length (collected isIn nums n)
+        → let lines = collected isIn nums n ++ pick c (nums n ∷ []) [] in length (lines_of head lines) ≤ b * length lines
     go true one front =
-        let lines = lines_below isIn nums n in
+        let lines = collected isIn nums n in
         omega (
           arith,
           ap length (flat_snoc (line head) lines (nums n)),
@@ -86,7 +88,7 @@ lines_short b head isIn nums (suc n) each =
           ap (λ (k : ℕ). b * k) (length-append lines (nums n ∷ []) ∙ add-one (length lines)),
           mul-suc b (length lines),
         )
-    go false one front = rw (append-nil (lines_below isIn nums n)) front
+    go false one front = rw (append-nil (collected isIn nums n)) front
 
 no_lines : (head : List ℕ) → length (lines_of head []) ≡ 0
 unfolding lines_of flat_map
@@ -155,7 +157,7 @@ module _ (l : Lists) (sound : Sound l) (v : Verdict) (ok : Correct l v) where
   order_short : v.answer ≡ Ok Order → Short (Ok Order)
   order_short e =
       let few = sound.tasks.few in
-      let lines : length (lines_for l v (Ok Order)) ≤ n = lines_few _ _ n in
+      let lines : length (lines_for l v (Ok Order)) ≤ n = collected_few _ _ n in
       omega (
         arith,
         listing_long 2 (word (Ok Order)) (lines_for l v (Ok Order)) [] (omega arith) (omega arith),
@@ -173,7 +175,7 @@ module _ (l : Lists) (sound : Sound l) (v : Verdict) (ok : Correct l v) where
       go : (length (lines_for l v (Ok Core)) < 1) ⊎ (1 ≤ length (lines_for l v (Ok Core))) → Short (Ok Core)
       go (inl none) =
           let few = sound.tasks.few in
-          let lates : length (late_for l (Ok Core)) ≤ n = lines_few _ _ n in
+          let lates : length (late_for l (Ok Core)) ≤ n = collected_few _ _ n in
           omega (
             arith,
             rules,
@@ -182,9 +184,9 @@ module _ (l : Lists) (sound : Sound l) (v : Verdict) (ok : Correct l v) where
           )
       go (inr some) =
           let few = sound.few_rules in
-          let lines : length (lines_for l v (Ok Core)) ≤ length l.rules = lines_few _ _ (length l.rules) in
+          let lines : length (lines_for l v (Ok Core)) ≤ length l.rules = collected_few _ _ (length l.rules) in
           let full : EmptyCore v → ⊥ = λ empty.
-          omega (arith, some, ap length (lines_none (marked v.core) (rule_line l.rules) (length l.rules) (λ k h. empty.1 k))) in
+          omega (arith, some, ap length (collected_none (marked v.core) (rule_line l.rules) (length l.rules) (λ k h. empty.1 k))) in
           let nobody : late_for l (Ok Core) ≡ [] = ap (late_for l) (sym e) ∙ (late_lines_lem l v sound ok).unchanged full in
           rw nobody (omega (
             arith,

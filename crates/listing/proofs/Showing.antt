@@ -6,13 +6,14 @@ use Rattle.taskset.specs.declared.refusals.Refusal.TheVariants.{NotMade}
 use Rattle.taskset.specs.declared.TaskSet.{TaskSet}
 use Rattle.taskset.specs.Model.{Lists}
 use Rattle.taskset.specs.Adding.{is_made, lists}
+use Rattle.taskset.specs.Outcome.{shown_as, buffer_after}
 use Rattle.verdict.specs.declared.Finding.TheVariants.{Order, Core}
 use Rattle.verdict.specs.declared.Solved.{Solved}
 use Rattle.verdict.specs.declared.Verdict.{Verdict}
 use Rattle.verdict.specs.Verdict.{deciding, solving}
 use Rattle.verdict.specs.Solving.{solving_14, solving_made}
 use Rattle.listing.specs.Listing.{listing, outcome}
-use Rattle.listing.specs.Listing.{fitted, shown_as, buffer_after}
+use Rattle.listing.specs.Listing.{fitted}
 
 -- what showing answers and leaves in a buffer that has room, once the bytes stand in its front
 pub shows_whole : (bytes was is : List ℕ) (n : ℕ) → n ≡ length bytes → n ≤ length was → is ≡ onto bytes was

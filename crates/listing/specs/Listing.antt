@@ -1,9 +1,10 @@
 -- Document 01, "Text and listing", with the late lines of document 02, (b): the listing of a verdict, and what listing a set leaves
 -- in a buffer. Assumes nothing.
-use Rattle.std.specs.Prelude.{Result, Ok, Err, Bool, true, List, [], ◌∷◌, ◌++◌, ℕ, zero, suc, leb, length, get_or}
+use Rattle.std.specs.Prelude.{Result, Ok, Err, Bool, List, [], ◌∷◌, ◌++◌, ℕ, leb, length, get_or}
 use Rattle.sets.specs.Choice.{pick}
+use Rattle.sets.specs.Bounded.{every}
+use Rattle.sets.specs.Collected.{collected}
 use Rattle.sets.specs.Marks.{marked}
-use Rattle.sets.specs.Onto.{onto}
 use Rattle.lines.specs.Decimal.{tab}
 use Rattle.lines.specs.Line.{line, lines_of}
 use Rattle.taskset.specs.declared.refusals.Refusal.{Refusal}
@@ -13,6 +14,7 @@ use Rattle.taskset.specs.declared.Rule.{Rule}
 use Rattle.taskset.specs.declared.TaskIndex.{TaskIndex}
 use Rattle.taskset.specs.declared.TaskSet.{TaskSet}
 use Rattle.taskset.specs.Model.{Lists, rule_at}
+use Rattle.taskset.specs.Outcome.{Outcome, shown_as}
 use Rattle.assignment.specs.Search.{index}
 use Rattle.assignment.specs.LateTasks.{unassignable, late_response}
 use Rattle.verdict.specs.declared.Finding.{Finding}
@@ -34,24 +36,19 @@ rule_line rules k = k ∷ (rule_at rules k).higher.0 ∷ (rule_at rules k).lower
 abbrev pub late_line : List Task → (ℕ → Bool) → ℕ → List ℕ
 late_line tasks left i = i ∷ late_response tasks left i ∷ []
 
--- the lines of the indices below n that are in, rising
-unfoldable pub lines_below : {A : Type 0} → (ℕ → Bool) → (ℕ → A) → ℕ → List A
-lines_below isIn nums zero = []
-lines_below isIn nums (suc n) = lines_below isIn nums n ++ pick (isIn n) (nums n ∷ []) []
-
 -- those of the first n levels of an order with its responses
 abbrev pub level_lines : List TaskIndex → List ℕ → ℕ → List (List ℕ)
-level_lines order responses n = lines_below (λ k. true) (level_line order responses) n
+level_lines order responses n = collected every (level_line order responses) n
 
 -- every level from 0; every rule of the core
 abbrev pub lines_for : Lists → Verdict → Result Finding Refusal → List (List ℕ)
 lines_for l v (Err k) = []
 lines_for l v (Ok Order) = level_lines v.order v.responses (length l.tasks)
-lines_for l v (Ok Core) = lines_below (marked v.core) (rule_line l.rules) (length l.rules)
+lines_for l v (Ok Core) = collected (marked v.core) (rule_line l.rules) (length l.rules)
 
 -- every task that is left
 abbrev pub late_lines : List Task → (ℕ → Bool) → List (List ℕ)
-late_lines tasks left = lines_below left (late_line tasks left) (length tasks)
+late_lines tasks left = collected left (late_line tasks left) (length tasks)
 
 -- under a core; one with rules leaves nobody (`LateLines`)
 abbrev pub late_for : Lists → Result Finding Refusal → List (List ℕ)
@@ -80,10 +77,6 @@ listing l v = let a = v.answer in listing_with (word a) (lines_for l v a) (late_
 
 -- ---- into a buffer
 
--- bytes to show, or a refusal
-abbrev pub Outcome : Type 0
-Outcome = Result (List ℕ) Refusal
-
 -- a refused solving is refused for its reason
 abbrev pub outcome_for : Lists → Verdict → Result Finding Refusal → Outcome
 outcome_for l v (Err k) = Err k
@@ -98,18 +91,9 @@ abbrev pub fitted : ℕ → Outcome → Outcome
 fitted room (Err k) = Err k
 fitted room (Ok bytes) = pick (leb (length bytes) room) (Ok bytes) (Err ShortBuffer)
 
--- what showing a verdict answers, which is the byte count, and listing a set
-abbrev pub shown_as : Outcome → Result ℕ Refusal
-shown_as (Err k) = Err k
-shown_as (Ok bytes) = Ok (length bytes)
-
+-- what listing a set answers, with the set
 abbrev pub listed : TaskSet → Outcome → Listed
 listed s o = record { shown = shown_as o; set = s }
-
--- the buffer afterwards: as it was on a refusal; else the bytes, and then what stood after their places
-abbrev pub buffer_after : Outcome → List ℕ → List ℕ
-buffer_after (Err k) buffer = buffer
-buffer_after (Ok bytes) buffer = onto bytes buffer
 
 -- the bytes that are always enough for a listing
 abbrev pub max_listing : ℕ

@@ -4,15 +4,17 @@
 
 ghost use Rattle.std.specs.Prelude.{◌≡◌, ℕ, ◌≤◌, ◌<◌, T, length, take, IfOk};
 ghost use Rattle.sets.specs.Bounded.{without};
+ghost use Rattle.sets.specs.Collected.{collected};
 ghost use Rattle.sets.specs.Marks.{marked};
 ghost use Rattle.lines.specs.Line.{max_head};
 ghost use Rattle.taskset.specs.Refusals.{max_tasks, max_rules};
 ghost use Rattle.taskset.specs.Adding.{lists};
 ghost use Rattle.taskset.specs.Views.{lists_of};
+ghost use Rattle.taskset.specs.Outcome.{shown_as, buffer_after};
 ghost use Rattle.response.specs.Blocking.{blocking_of};
 ghost use Rattle.assignment.specs.LateTasks.{unassignable};
 ghost use Rattle.verdict.specs.Verdict.{solving};
-ghost use Rattle.listing.specs.Listing.{level_lines, rule_line, late_line, lines_below, late_lines, listing_with, outcome, fitted, shown_as, listed, buffer_after};
+ghost use Rattle.listing.specs.Listing.{level_lines, rule_line, late_line, late_lines, listing_with, outcome, fitted, listed};
 ghost use Rattle.listing.specs.Gives.{Gives};
 
 use assignment::late_response;
@@ -37,7 +39,7 @@ pub struct Listed {
 }
 
 // The lines of an order: each level from 0, its task and that task's response.
-#[tactic(auto, using(crate::specs::ListingLaws::line_turns, std::proofs::lemmas::Grind::common_steps))]
+#[tactic(auto, using(sets::specs::Collected::collecting, std::proofs::lemmas::Grind::common_steps))]
 fn level_lines(verdict: &Verdict, n: usize, lines: &mut [[u64; WIDTH]])
     requires few { n ≤ max_tasks }
     requires room { n ≤ length lines.old }
@@ -49,7 +51,7 @@ fn level_lines(verdict: &Verdict, n: usize, lines: &mut [[u64; WIDTH]])
 }
 
 // A line for each marked index below n, rising; and how many they are.
-#[tactic(auto, using(crate::specs::ListingLaws::line_turns, std::proofs::lemmas::Grind::common_steps))]
+#[tactic(auto, using(sets::specs::Collected::collecting, std::proofs::lemmas::Grind::common_steps))]
 fn marked_lines<L: Copy, F: Fn(usize) -> L>(
     marks: &[bool],
     n: usize,
@@ -61,8 +63,8 @@ fn marked_lines<L: Copy, F: Fn(usize) -> L>(
     requires room { n ≤ length lines.old }
     requires callable { (k : ℕ) → k < n → T (marked marks.now k) → F.pre line k }
     requires computes { (k : ℕ) (r : L) → k < n → T (marked marks.now k) → F.post line k r → r ≡ line_of k }
-    ensures value { result ≡ length (lines_below (marked marks.now) line_of n) }
-    ensures lines { take result lines.new ≡ lines_below (marked marks.now) line_of n }
+    ensures value { result ≡ length (collected (marked marks.now) line_of n) }
+    ensures lines { take result lines.new ≡ collected (marked marks.now) line_of n }
 {
     let mut count = 0;
     for (k, is_marked) in marks[..n].iter().enumerate() {
@@ -78,8 +80,8 @@ fn marked_lines<L: Copy, F: Fn(usize) -> L>(
 fn rule_lines(core: &[bool; MAX_RULES], rules: &[Rule], lines: &mut [[u64; WIDTH]]) -> usize
     requires few { length rules.now ≤ max_rules }
     requires room { length rules.now ≤ length lines.old }
-    ensures value { result ≡ length (lines_below (marked core.now) (rule_line rules.now) (length rules.now)) }
-    ensures lines { take result lines.new ≡ lines_below (marked core.now) (rule_line rules.now) (length rules.now) }
+    ensures value { result ≡ length (collected (marked core.now) (rule_line rules.now) (length rules.now)) }
+    ensures lines { take result lines.new ≡ collected (marked core.now) (rule_line rules.now) (length rules.now) }
 {
     let line = |k: usize| -> [u64; WIDTH]
         requires { k < length rules.now }

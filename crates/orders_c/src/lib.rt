@@ -3,7 +3,8 @@
 #![tactic(auto)]
 
 ghost use Rattle.std.specs.Prelude.{◌≡◌, length};
-ghost use Rattle.listing.specs.Listing.{fitted, buffer_after};
+ghost use Rattle.taskset.specs.Outcome.{buffer_after};
+ghost use Rattle.listing.specs.Listing.{fitted};
 ghost use Rattle.answer.specs.Answer.{answer_to, host_number};
 ghost use Rattle.answer.specs.Host.{HostGets};
 

@@ -1,12 +1,13 @@
 -- What is claimed of the search for the cheapest rules to give up, over any problem: of cores, of sets that are still to be looked at,
 -- and of an exploration on its way. Assumes nothing.
 use Rattle.std.specs.Prelude.{◌≡◌, Bool, false, true, List, ◌⊎◌, ℕ, ◌+◌, ◌*◌, ◌≤◌, ◌<◌, T, length, get_or, set}
-use Rattle.sets.specs.Bounded.{every, Subset, without}
+use Rattle.sets.specs.Bounded.{every, Subset}
 use Rattle.sets.specs.Sum.{sum}
 use Rattle.sets.specs.Marks.{marked}
 use Rattle.taskset.specs.Refusals.{max_rules, max_weight}
 use Rattle.assignment.specs.Orders.{no_rule}
 use Rattle.assignment.specs.Audsley.{Problem, feasible}
+use Rattle.assignment.specs.Cores.{IsCore}
 use Rattle.assignment.specs.Decision.{Lawful}
 use Rattle.relaxation.specs.declared.restore.Restoring.{Restoring}
 use Rattle.relaxation.specs.declared.cores.DisjointCores.{DisjointCores}
@@ -30,12 +31,6 @@ module _ (p : Problem) where
     pub weights : (k : ℕ) → k < length p.rules → (1 ≤ weight_at p.rules k) × (weight_at p.rules k ≤ max_weight)
     pub hopeful : T (feasible p no_rule)
 
-  -- a core, by the test: infeasible, and feasible without any one of its rules
-  pub record IsCore (A : ℕ → Bool) : Type 0 where
-    pub clash : T (feasible p A) → ⊥
-    pub needed : (k : ℕ) → T (A k) → T (feasible p (without A k))
-    pub inside : (k : ℕ) → T (A k) → k < length p.rules
-
   -- the rules put back within a budget: there is an order; and where the budget reaches for all, no other can be put back alone
   pub record Restores (budget : ℕ) (r : Restoring) : Type 0 where
     pub long : length r.kept ≡ max_rules
@@ -51,13 +46,13 @@ module _ (p : Problem) where
   -- the cores that are remembered are cores
   pub record Remembers (c : Cores) : Type 0 where
     pub size : length c.sets ≡ max_remembered
-    pub each : (i : ℕ) → i < c.n → IsCore (core_at c i)
+    pub each : (i : ℕ) → i < c.n → IsCore p (core_at c i)
 
   -- those that are listed are cores, share no rule by their numbers, and have these least weights
   pub record ListsCores (s : DisjointCores) : Type 0 where
     pub long : length s.numbers ≡ max_rules
     pub numbers : (k : ℕ) → get_or s.numbers k 0 ≤ s.ncores
-    pub core : (j : ℕ) → 1 ≤ j → j ≤ s.ncores → IsCore (in_core s.numbers j)
+    pub core : (j : ℕ) → 1 ≤ j → j ≤ s.ncores → IsCore p (in_core s.numbers j)
     pub some : (j : ℕ) → 1 ≤ j → j ≤ s.ncores → (k : ℕ) × (k < length p.rules) × (get_or s.numbers k 0 ≡ j)
     pub least : s.least ≡ sum s.ncores every (λ j. least_weight p.rules (length p.rules) (in_core s.numbers (j + 1)))
 

@@ -7,20 +7,21 @@ use Rattle.std.proofs.Math.Path.{fun_ext}
 use Rattle.std.proofs.Math.ListN.{get_or-eq_default}
 use Rattle.std.proofs.lemmas.List.{length-replicate, get_or-replicate}
 use Rattle.sets.specs.Choice.{pick, T→true, true→T, refuted→false, not→refuted, refuted→not, decided, lt_or_le, and_intro, and_left, and_right}
-use Rattle.sets.specs.Bounded.{every, Subset, all, all_at, all_of, below_suc, count, count-some, count_pos}
+use Rattle.sets.specs.Bounded.{every, others, Subset, all, all_at, all_of, below_suc, count, count-some, count_pos}
 use Rattle.sets.specs.Sum.{sum, sum-none, sum_more, sum_mono, sum_less, sum_cong, sum_apart}
 use Rattle.sets.specs.Marks.{marked, first, table, length-table, get_or-table}
 use Rattle.taskset.specs.declared.Rule.{Rule}
 use Rattle.taskset.specs.Refusals.{max_rules, max_weight}
 use Rattle.assignment.specs.Orders.{no_rule}
 use Rattle.assignment.specs.Audsley.{Problem, feasible}
+use Rattle.assignment.specs.Cores.{IsCore}
 use Rattle.assignment.specs.Decision.{feasible_fewer}
 use Rattle.relaxation.specs.declared.cores.DisjointCores.{DisjointCores}
 use Rattle.relaxation.specs.declared.cores.Cores.{Cores}
-use Rattle.relaxation.specs.Weights.{weight_at, others, cost_of, least_weight}
+use Rattle.relaxation.specs.Weights.{weight_at, cost_of, least_weight}
 use Rattle.relaxation.specs.Disjoint.{none_listed, fresh_at, listed_with, included, listed_in, core_at}
 use Rattle.relaxation.specs.Relaxes.{in_core}
-use Rattle.relaxation.proofs.Claims.{Relaxable, IsCore, Remembers, ListsCores, IsFloor}
+use Rattle.relaxation.proofs.Claims.{Relaxable, Remembers, ListsCores, IsFloor}
 use Rattle.relaxation.proofs.DisjointSteps.{least_small}
 
 -- ---- the least weight of some rules

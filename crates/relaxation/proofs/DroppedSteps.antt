@@ -4,10 +4,10 @@ use Rattle.std.proofs.Math.Path.{fun_ext}
 use Rattle.std.proofs.Math.Dec.{eqb_refl}
 use Rattle.std.proofs.Common.{sym, ap, ◌∙◌, ⊎_elim, arith, ext_get_or, eqb→eq, lt-ltb, le-ltb}
 use Rattle.sets.specs.Choice.{pick, true→T, false→refuted, lt_or_le}
+use Rattle.sets.specs.Bounded.{others}
 use Rattle.sets.specs.Marks.{marked, marked-none, marked_store, table, length-table, get_or-table, table_is}
 use Rattle.sets.specs.Pad.{pad}
 use Rattle.taskset.specs.Refusals.{max_rules}
-use Rattle.relaxation.specs.Weights.{others}
 use Rattle.relaxation.specs.Relaxing.{dropped_of}
 
 -- the first n rules that are not kept

@@ -6,26 +6,27 @@ use Rattle.std.proofs.lemmas.Bool.{false≢true}
 use Rattle.std.proofs.lemmas.List.{get_or-set_same, get_or-set_other, length-set, length-replicate}
 use borrow.Author.Tests.{leb-false, ltb-false, eqb-false}
 use Rattle.sets.specs.Choice.{pick, option, T→true, true→T, refuted→false, false→refuted, not→refuted, and_intro, lt_or_le}
-use Rattle.sets.specs.Bounded.{Subset, greatest, Greatest, found, nothing, greatest_is}
+use Rattle.sets.specs.Bounded.{others, Subset, greatest, Greatest, found, nothing, greatest_is}
 use Rattle.sets.specs.Sum.{sum-le}
 use Rattle.sets.specs.Marks.{marked-table, first, marked, table, length-table}
 use Rattle.sets.specs.Pad.{pad-length}
 use Rattle.taskset.specs.Refusals.{max_rules, max_weight}
 use Rattle.assignment.specs.Audsley.{Problem, feasible}
-use Rattle.assignment.specs.Decision.{Lawful, feasible_fewer}
+use Rattle.assignment.specs.Cores.{IsCore}
+use Rattle.assignment.specs.Decision.{feasible_fewer}
 use Rattle.verdict.specs.Core.{cut_of}
-use Rattle.verdict.specs.CoreLaws.{EachTurn, first_below, cut_rules, cut_infeasible, cut_beyond, cut_needed}
+use Rattle.verdict.specs.CoreLaws.{EachTurn, first_below, cut_rules, cut_beyond, cut_is_core}
 use Rattle.relaxation.specs.declared.restore.Restoring.{Restoring}
 use Rattle.relaxation.specs.declared.cores.Cores.{Cores}
 use Rattle.relaxation.specs.declared.frontier.Open.{Open}
 use Rattle.relaxation.specs.declared.explore.Exploring.{Exploring}
-use Rattle.relaxation.specs.Weights.{weight_at, others, cost_of, cost_most}
+use Rattle.relaxation.specs.Weights.{weight_at, cost_of, cost_most}
 use Rattle.relaxation.specs.Turns.{light_first}
 use Rattle.relaxation.specs.Restoring.{restored}
 use Rattle.relaxation.specs.Disjoint.{included, max_remembered, core_at, remembered}
 use Rattle.relaxation.specs.Frontier.{max_open, least_of, branched}
 use Rattle.relaxation.specs.Exploring.{stopped, counted, taking, settled, changed, counted_cut, core_in, branching, learned, learning, solved, looked, looking, every_open, at_start, started, explored, looks}
-use Rattle.relaxation.proofs.Claims.{Relaxable, IsCore, Restores, Remembers, Opens, Fronts, part_of, InHand, IsFloor, Explores}
+use Rattle.relaxation.proofs.Claims.{Relaxable, Restores, Remembers, Opens, Fronts, part_of, InHand, IsFloor, Explores}
 use Rattle.relaxation.proofs.RestoringLaws.{marked_there, marked_still}
 use Rattle.relaxation.proofs.DisjointLaws.{included-subset}
 use Rattle.relaxation.proofs.TurnLaws.{marks_first}
@@ -47,16 +48,6 @@ module _ (p : Problem) where
   pub learning_is : (e : Exploring) (o : Open) → learning p e o ≡ learned p e o (core_in p o.kept) (e.count + length p.rules)
   unfolding learning core_in
   learning_is e o = rw (counted_cut_is (marked o.kept) e.count (length p.rules)) refl
-
--- what is left of a set that has no order, when each rule was tried, is a core
-pub cut_is_core : (p : Problem) → Lawful p → (turn : ℕ → ℕ) (start : ℕ → Bool) → ((k : ℕ) → T (start k) → k < length p.rules)
-    → EachTurn turn start (length p.rules) → (T (feasible p start) → ⊥) → IsCore p (cut_of (feasible p) turn start (length p.rules))
-cut_is_core p lawful turn start inside each hopeless =
-    record {
-      clash = cut_infeasible (feasible p) turn start (length p.rules) hopeless;
-      needed = cut_needed (feasible p) turn start (length p.rules) (λ B A fewer. feasible_fewer p B A fewer lawful) each;
-      inside = λ k t. inside k (cut_rules (feasible p) turn start (length p.rules) k t);
-    }
 
 module _ (p : Problem) (fit : Relaxable p) where
   abbrev m : ℕ

@@ -4,7 +4,7 @@ use Rattle.std.specs.Prelude.{Option, Some, None, [], ◌≡◌, refl, Bool, tru
 use Rattle.std.proofs.Common.{subst, add-one, arith, le-leb, lt-ltb, le-ltb, eq-eqb, ltb→lt, leb→le, sym, ap, eqb→eq, ◌∙◌}
 use borrow.Author.Tests.{lt-leb, ne_eqb}
 use Rattle.sets.specs.Choice.{pick, T→true, true→T, refuted→false, and_left, and_right}
-use Rattle.sets.specs.Bounded.{without, greatest}
+use Rattle.sets.specs.Bounded.{others, without, greatest}
 use Rattle.sets.specs.Marks.{marked}
 use Rattle.sets.specs.Sum.{sum, sum_more, sum-le}
 use Rattle.taskset.specs.Refusals.{max_weight}
@@ -20,7 +20,7 @@ use Rattle.relaxation.specs.declared.restore.Restoring.{Restoring}
 use Rattle.relaxation.specs.declared.frontier.Open.{Open}
 use Rattle.relaxation.specs.declared.frontier.Frontier.{Frontier}
 use Rattle.relaxation.specs.declared.explore.Exploring.{Exploring}
-use Rattle.relaxation.specs.Weights.{weight_at, others, cost_most}
+use Rattle.relaxation.specs.Weights.{weight_at, cost_most}
 use Rattle.relaxation.specs.Disjoint.{included, core_at}
 use Rattle.relaxation.specs.Frontier.{least_of, taken}
 use Rattle.relaxation.specs.Exploring.{stopped, counted, settled, changed, branching, learning, solved, looked, looking, every_open, at_start, started}

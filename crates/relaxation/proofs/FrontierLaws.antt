@@ -8,19 +8,20 @@ use Rattle.std.proofs.Math.Nat.{le_step}
 use Rattle.std.proofs.Math.Dec.{eqb_refl}
 use borrow.Author.Tests.{leb-false, ltb-false}
 use Rattle.sets.specs.Choice.{pick, T→true, true→T, false→refuted, not→refuted, refuted→not, decided, lt_or_le}
-use Rattle.sets.specs.Bounded.{Subset, without, without_still, without_other, below_suc}
+use Rattle.sets.specs.Bounded.{others, Subset, without, without_still, without_other, below_suc}
 use Rattle.sets.specs.Sum.{sum_without, sum_less}
 use Rattle.sets.specs.Marks.{marked, marked-without}
 use Rattle.taskset.specs.declared.Rule.{Rule}
 use Rattle.assignment.specs.Audsley.{Problem, feasible}
+use Rattle.assignment.specs.Cores.{IsCore}
 use Rattle.assignment.specs.Decision.{feasible_fewer}
 use Rattle.relaxation.specs.declared.cores.Cores.{Cores}
 use Rattle.relaxation.specs.declared.frontier.Open.{Open}
 use Rattle.relaxation.specs.declared.frontier.Frontier.{Frontier}
-use Rattle.relaxation.specs.Weights.{weight_at, others, cost_of, cost_most}
+use Rattle.relaxation.specs.Weights.{weight_at, cost_of, cost_most}
 use Rattle.relaxation.specs.Disjoint.{listed_in}
 use Rattle.relaxation.specs.Frontier.{max_open, no_open, open_at, FewOpen, foremost, least_of, taken, added, without_rule, child, branched}
-use Rattle.relaxation.proofs.Claims.{Relaxable, IsCore, Remembers, Opens, Fronts, nothing_beside, part_of}
+use Rattle.relaxation.proofs.Claims.{Relaxable, Remembers, Opens, Fronts, nothing_beside, part_of}
 
 -- ---- the foremost
 

@@ -6,7 +6,7 @@ use Rattle.std.proofs.Common.{sym, ap, subst, ◌∙◌, inl, inr, ⊎_elim, le_
 use Rattle.std.proofs.Math.Bool.{not-not}
 use borrow.Author.Tests.{ltb-false, eqb-false}
 use Rattle.sets.specs.Choice.{pick, true→T, refuted→false, false→refuted, not→refuted, refuted→not, and_intro, and_left, and_right, or_elim, or_false_left, or_false_right, decided, lt_or_le}
-use Rattle.sets.specs.Bounded.{every, Subset, without, without_still, without_other}
+use Rattle.sets.specs.Bounded.{every, others, Subset, without, without_still}
 use Rattle.sets.specs.Pad.{pad_used, pad-rest}
 use Rattle.sets.specs.Sum.{sum_same}
 use Rattle.sets.specs.Marks.{first, marked, table, length-table, get_or-table}
@@ -18,31 +18,32 @@ use Rattle.taskset.specs.Refusals.{max_rules, outside}
 use Rattle.taskset.specs.Model.{Lists, Sound}
 use Rattle.taskset.specs.Adding.{is_made, lists, Made}
 use Rattle.taskset.specs.Exact.{made_sound, made_passes}
-use Rattle.assignment.specs.Orders.{no_rule, SomeOrder}
+use Rattle.assignment.specs.Orders.{no_rule, Works}
 use Rattle.assignment.specs.Audsley.{Problem, feasible, problem}
+use Rattle.assignment.specs.Cores.{IsCore, rules_in}
 use Rattle.assignment.proofs.Preemptive.{lawful, feasible-order, less-feasible}
-use Rattle.subsets.specs.Subsets.{short, subsets}
+use Rattle.assignment.proofs.CoreOrders.{rules_in_was, order_from, core_found, found_core}
+use Rattle.subsets.specs.Subsets.{short, subsets, feasible_set}
 use Rattle.subsets.proofs.SubsetsLaws.{sets-le}
 use Rattle.verdict.specs.Core.{by_place, core_of}
-use Rattle.verdict.specs.CoreLaws.{first_below, place_turn}
+use Rattle.verdict.specs.CoreLaws.{first_below, place_turn, cut_is_core}
 use Rattle.relaxation.specs.declared.Relaxation.{Relaxation}
 use Rattle.relaxation.specs.declared.Relaxed.{Relaxed}
 use Rattle.relaxation.specs.declared.cores.DisjointCores.{DisjointCores}
 use Rattle.relaxation.specs.declared.explore.Exploring.{Exploring}
-use Rattle.relaxation.specs.Weights.{weight_at, weight_of, others, cost_of}
+use Rattle.relaxation.specs.Weights.{weight_at, weight_of, cost_of}
 use Rattle.relaxation.specs.Restoring.{max_budget}
 use Rattle.relaxation.specs.Disjoint.{listed_in}
 use Rattle.relaxation.specs.Exploring.{explored}
-use Rattle.relaxation.specs.Table.{solved_set, cost_at, cheapest, cores_listed}
+use Rattle.relaxation.specs.Table.{cost_at, cheapest, cores_listed}
 use Rattle.relaxation.specs.Relaxing.{dropped_of, none_relaxed, tabled_relaxation, explored_relaxation, relaxed_within, relaxing_on, relaxing}
-use Rattle.relaxation.specs.Relaxes.{Works, UnschedulabilityCore, in_core, Relieves, Relaxes}
-use Rattle.relaxation.proofs.Claims.{Relaxable, IsCore, ListsCores, IsFloor, Explores}
+use Rattle.relaxation.specs.Relaxes.{in_core, Relieves, Relaxes}
+use Rattle.relaxation.proofs.Claims.{Relaxable, ListsCores, IsFloor, Explores}
 use Rattle.relaxation.proofs.TableSteps.{tabled_whole}
 use Rattle.relaxation.proofs.TableLaws.{cheapest_is, cores_lists, cores_floor, cores_meet}
 use Rattle.relaxation.proofs.DisjointLaws.{number, listed_lists, listed_first, listed_first_floor}
 use Rattle.relaxation.proofs.FrontierLaws.{more_cost}
 use Rattle.relaxation.proofs.RestoringLaws.{marked_was}
-use Rattle.relaxation.proofs.ExploringLaws.{cut_is_core}
 use Rattle.relaxation.proofs.ExploringSteps.{relaxable}
 use Rattle.relaxation.proofs.ExploredSteps.{all_explored}
 
@@ -77,48 +78,9 @@ others_in A k = refuted→not (A k)
 others_out : (A : ℕ → Bool) (k : ℕ) → T (others A k) → T (A k) → ⊥
 others_out A k = not→refuted (A k)
 
--- ---- the tests and his orders
+-- ---- what is relaxed_by, where these are kept
 
 module _ (l : Lists) (sound : Sound l) where
-  order_of : (less more : ℕ → Bool) → Subset (length l.rules) less more → T (feasible (problem l) more) → SomeOrder l less
-  order_of less more fewer t = (feasible-order l sound less).0 (less-feasible l sound less more fewer t)
-
-  test_of : (less more : ℕ → Bool) → Subset (length l.rules) less more → SomeOrder l more → T (feasible (problem l) less)
-  test_of less more fewer o = less-feasible l sound less more fewer ((feasible-order l sound more).1 o)
-
-  -- a core by the test is one, and one's rules are one by the test
-  is_core : (A : ℕ → Bool) → IsCore (problem l) A → UnschedulabilityCore l A
-  is_core A core =
-      record {
-        clash = λ o. core.clash ((feasible-order l sound A).1 o);
-        needed = λ k h t. (feasible-order l sound (without A k)).0 (core.needed k t);
-      }
-
-  abbrev inside : (ℕ → Bool) → ℕ → Bool
-  inside A k = first (length l.rules) k && A k
-
-  inside_in : (A : ℕ → Bool) (k : ℕ) → k < length l.rules → T (A k) → T (inside A k)
-  inside_in A k h t = and_intro (first (length l.rules) k) (A k) (lt→ltb k (length l.rules) h) t
-
-  inside_below : (A : ℕ → Bool) (k : ℕ) → T (inside A k) → k < length l.rules
-  inside_below A k t = first_below (length l.rules) k (and_left (first (length l.rules) k) (A k) t)
-
-  inside_was : (A : ℕ → Bool) (k : ℕ) → T (inside A k) → T (A k)
-  inside_was A k t = and_right (first (length l.rules) k) (A k) t
-
-  core_inside : (A : ℕ → Bool) → UnschedulabilityCore l A → IsCore (problem l) (inside A)
-  core_inside A core =
-      record {
-        clash = λ t. core.clash (order_of A (inside A) (inside_in A) t);
-        needed = λ k t.
-            test_of (without (inside A) k) (without A k)
-            (λ j h s. let w = without_still (inside A) k j s in without_other A k j w.1 (inside_was A j w.0))
-            (core.needed k (inside_below A k t) (inside_was A k t));
-        inside = inside_below A;
-      }
-
-  -- ---- what is relaxed_by, where these are kept
-
   module _ (kept : ℕ → Bool) (works : T (feasible (problem l) kept)) (floor : ℕ) (is_floor : IsFloor (problem l) floor) (s : DisjointCores)
       (is : ListsCores (problem l) s) (least : s.least ≤ floor) where
     abbrev given : ℕ → Bool
@@ -171,10 +133,10 @@ module _ (l : Lists) (sound : Sound l) where
       relieves_answered =
           record {
             rules = dropped_below (length l.rules) kept;
-            works = order_of (others given) kept beside_kept works;
+            works = order_from l sound (others given) kept beside_kept works;
             weight = weight_is;
             floor = floor_under;
-            cores = λ j low high. is_core (in_core s.numbers j) (is.core j low high);
+            cores = λ j low high. core_found l sound (in_core s.numbers j) (is.core j low high);
             listed = λ j low high. let r = is.some j low high in (r.0, r.1, true→T (in_core s.numbers j r.0) (eq-eqb (number s r.0) j r.2));
             numbers = is.numbers;
             members = members_below;
@@ -188,8 +150,8 @@ module _ (l : Lists) (sound : Sound l) where
             some = λ reaches k t. some reaches k (dropped_below (length l.rules) kept k t) (dropped_out (length l.rules) kept k t);
             exact = exact;
             meets = λ few enough A core k h t.
-                let r = meets few enough (inside A) (core_inside A core) in
-                (r.0, r.1, inside_was A r.0 r.2, ⊎_elim (λ l. absurd (r.3 (omega (arith, l)))) (λ g. g) (lt_or_le (number s r.0) 1));
+                let r = meets few enough (rules_in (problem l) A) (found_core l sound A core) in
+                (r.0, r.1, rules_in_was (problem l) A r.0 r.2, ⊎_elim (λ l. absurd (r.3 (omega (arith, l)))) (λ g. g) (lt_or_le (number s r.0) 1));
             within = within;
           }
 
@@ -253,12 +215,12 @@ module _ (l : Lists) (sound : Sound l) (hopeful : T (feasible (problem l) no_rul
 -- of the search through all sets of at most 12 rules: the cheapest one that has an order, and cores that share no rule and that each
 -- other core meets
 pub record Tabled (p : Problem) : Type 0 where
-  pub works : T (solved_set p (cheapest p (solved_set p) (2 ^ length p.rules)))
-  pub least : (K : ℕ → Bool) → T (feasible p K) → cost_at p (cheapest p (solved_set p) (2 ^ length p.rules)) ≤ cost_of p.rules K
-  pub lists : ListsCores p (cores_listed p (solved_set p) (2 ^ length p.rules))
-  pub floor : IsFloor p (cores_listed p (solved_set p) (2 ^ length p.rules)).least
+  pub works : T (feasible_set p (cheapest p (feasible_set p) (2 ^ length p.rules)))
+  pub least : (K : ℕ → Bool) → T (feasible p K) → cost_at p (cheapest p (feasible_set p) (2 ^ length p.rules)) ≤ cost_of p.rules K
+  pub lists : ListsCores p (cores_listed p (feasible_set p) (2 ^ length p.rules))
+  pub floor : IsFloor p (cores_listed p (feasible_set p) (2 ^ length p.rules)).least
   pub meets : (A : ℕ → Bool) → IsCore p A
-      → (k : ℕ) × (k < length p.rules) × T (A k) × (number (cores_listed p (solved_set p) (2 ^ length p.rules)) k ≡ 0 → ⊥)
+      → (k : ℕ) × (k < length p.rules) × T (A k) × (number (cores_listed p (feasible_set p) (2 ^ length p.rules)) k ≡ 0 → ⊥)
 
 module _ (l : Lists) (sound : Sound l) (tables : Tabled (problem l)) (few : length l.rules ≤ 12) (budget : ℕ)
     (enough : 4_096 ≤ budget) where
@@ -266,10 +228,10 @@ module _ (l : Lists) (sound : Sound l) (tables : Tabled (problem l)) (few : leng
   all_sets = 2 ^ length l.rules
 
   abbrev best : ℕ → Bool
-  best = numbered (cheapest (problem l) (solved_set (problem l)) all_sets)
+  best = numbered (cheapest (problem l) (feasible_set (problem l)) all_sets)
 
   abbrev found : DisjointCores
-  found = cores_listed (problem l) (solved_set (problem l)) all_sets
+  found = cores_listed (problem l) (feasible_set (problem l)) all_sets
 
   heavy : (k : ℕ) → k < length l.rules → 1 ≤ weight_at l.rules k
   heavy k h = (sound.weights k h).least

@@ -7,20 +7,11 @@ use Rattle.sets.specs.Marks.{marked}
 use Rattle.taskset.specs.declared.refusals.Refusal.{Refusal}
 use Rattle.taskset.specs.declared.refusals.Refusal.TheVariants.{NoTasks, Budget}
 use Rattle.taskset.specs.Model.{Lists}
-use Rattle.assignment.specs.Orders.{no_rule, SomeOrder}
+use Rattle.assignment.specs.Orders.{no_rule, SomeOrder, UnschedulabilityCore, Works}
 use Rattle.relaxation.specs.declared.Relaxation.{Relaxation}
 use Rattle.relaxation.specs.declared.Relaxed.{Relaxed}
-use Rattle.relaxation.specs.Weights.{weight_of, others, least_weight}
+use Rattle.relaxation.specs.Weights.{weight_of, least_weight}
 use Rattle.relaxation.specs.Relaxing.{none_relaxed}
-
--- dropping these rules lets a valid order through
-abbrev pub Works : Lists → (ℕ → Bool) → Type 0
-Works l dropped = SomeOrder l (others dropped)
-
--- a core: no order keeps all of it and meets every deadline, and without any one of its rules some order does
-pub record UnschedulabilityCore (l : Lists) (A : ℕ → Bool) : Type 0 where
-  pub clash : SomeOrder l A → ⊥
-  pub needed : (k : ℕ) → k < length l.rules → T (A k) → SomeOrder l (without A k)
 
 -- the rules of the listed core with this number
 abbrev pub in_core : List ℕ → ℕ → ℕ → Bool

@@ -1,6 +1,7 @@
 -- Document 02, (f): what the call answers, for any set and any budget. Assumes nothing.
 use Rattle.std.specs.Prelude.{Some, None, Result, Ok, Err, Bool, ◌&&◌, List, ℕ, max, leb, eqb, length}
 use Rattle.sets.specs.Choice.{pick}
+use Rattle.sets.specs.Bounded.{others}
 use Rattle.sets.specs.Marks.{first, marked}
 use Rattle.sets.specs.Numbered.{numbered}
 use Rattle.taskset.specs.declared.TaskSet.{TaskSet}
@@ -14,7 +15,7 @@ use Rattle.assignment.specs.Audsley.{Problem, feasible, problem}
 use Rattle.subsets.specs.Subsets.{short, subsets}
 use Rattle.relaxation.specs.declared.Relaxed.{Relaxed}
 use Rattle.relaxation.specs.declared.cores.DisjointCores.{DisjointCores}
-use Rattle.relaxation.specs.Weights.{others, cost_of, marks_of}
+use Rattle.relaxation.specs.Weights.{cost_of, marks_of}
 use Rattle.relaxation.specs.Restoring.{max_budget}
 use Rattle.relaxation.specs.Disjoint.{listed_in}
 use Rattle.relaxation.specs.Exploring.{explored}

@@ -13,9 +13,6 @@ use Rattle.relaxation.specs.Disjoint.{none_listed, listed_with}
 unfoldable pub answers : Problem → List Bool
 answers p = true ∷ table (2 ^ length p.rules - 1) (λ c. feasible p (numbered (suc c)))
 
-abbrev pub solved_set : Problem → ℕ → Bool
-solved_set p c = feasible p (numbered c)
-
 abbrev pub cost_at : Problem → ℕ → ℕ
 cost_at p c = cost_of p.rules (numbered c)
 

@@ -1,7 +1,8 @@
 -- Document 02, (f): the weights of rules, and arrays of marks for sets of rules. A set of rules is a test of their places.
 -- Assumes nothing.
-use Rattle.std.specs.Prelude.{Bool, false, ◌&&◌, not, List, ℕ, zero, suc, min, ltb, length}
+use Rattle.std.specs.Prelude.{Bool, false, ◌&&◌, List, ℕ, zero, suc, min, ltb, length}
 use Rattle.sets.specs.Choice.{pick}
+use Rattle.sets.specs.Bounded.{others}
 use Rattle.sets.specs.Pad.{pad}
 use Rattle.sets.specs.Sum.{sum}
 use Rattle.sets.specs.Marks.{table}
@@ -18,9 +19,6 @@ abbrev pub weight_of : List Rule → (ℕ → Bool) → ℕ
 weight_of rules A = sum (length rules) A (weight_at rules)
 
 -- and of the rules that are not in it: what it costs to keep these alone
-abbrev pub others : (ℕ → Bool) → ℕ → Bool
-others A k = not (A k)
-
 abbrev pub cost_of : List Rule → (ℕ → Bool) → ℕ
 cost_of rules kept = weight_of rules (others kept)
 

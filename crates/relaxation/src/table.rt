@@ -5,9 +5,9 @@ ghost use Rattle.sets.specs.Marks.{marked};
 ghost use Rattle.taskset.specs.Views.{lists_of};
 ghost use Rattle.assignment.specs.Orders.{no_rule};
 ghost use Rattle.assignment.specs.Audsley.{feasible, problem};
-ghost use Rattle.subsets.specs.Subsets.{short, FeasibleSubsets};
+ghost use Rattle.subsets.specs.Subsets.{short, feasible_set, FeasibleSubsets};
 ghost use Rattle.relaxation.specs.Weights.{cost_of, cost_most};
-ghost use Rattle.relaxation.specs.Table.{solved_set, cheapest, cores_listed};
+ghost use Rattle.relaxation.specs.Table.{cheapest, cores_listed};
 ghost use Rattle.relaxation.specs.Relaxing.{tabled_relaxation};
 
 use crate::cores::DisjointCores;
@@ -20,7 +20,7 @@ use taskset::System;
 fn cheapest(system: System<'_>, feasible: &[bool; SUBSETS]) -> usize
     requires few { length system.rules.now ≤ short }
     requires table { FeasibleSubsets (lists_of system) feasible.now }
-    ensures value { result ≡ cheapest (problem (lists_of system.entry)) (solved_set (problem (lists_of system.entry))) (2 ^ length system.entry.rules.now) }
+    ensures value { result ≡ cheapest (problem (lists_of system.entry)) (feasible_set (problem (lists_of system.entry))) (2 ^ length system.entry.rules.now) }
     ensures in_bounds { result < 2 ^ length system.entry.rules.now }
 {
     let mut best = 0;
@@ -41,7 +41,7 @@ fn cheapest(system: System<'_>, feasible: &[bool; SUBSETS]) -> usize
 fn cores_listed(system: System<'_>, feasible: &[bool; SUBSETS]) -> DisjointCores
     requires few { length system.rules.now ≤ short }
     requires table { FeasibleSubsets (lists_of system) feasible.now }
-    ensures { result ≡ cores_listed (problem (lists_of system.entry)) (solved_set (problem (lists_of system.entry))) (2 ^ length system.entry.rules.now) }
+    ensures { result ≡ cores_listed (problem (lists_of system.entry)) (feasible_set (problem (lists_of system.entry))) (2 ^ length system.entry.rules.now) }
 {
     let mut listed = DisjointCores::none();
     for set in 0..1 << system.rules.len() {

@@ -1,7 +1,7 @@
 -- Tests over the numbers below a bound: all pass, the greatest that passes, how many pass.
 -- A set of numbers is a test, ℕ → Bool, of which only what lies below the bound counts. Assumes nothing.
 use Rattle.std.specs.Prelude.{Option, None, Some}
-use Rattle.std.specs.Prelude.{◌≡◌, refl, Bool, true, false, ◌&&◌, List, ℕ, zero, suc, ◌+◌, ◌≤◌, ◌<◌, T, eqb, ltb, length, get_or}
+use Rattle.std.specs.Prelude.{◌≡◌, refl, Bool, true, false, not, ◌&&◌, List, ℕ, zero, suc, ◌+◌, ◌≤◌, ◌<◌, T, eqb, ltb, length, get_or}
 use Rattle.std.specs.List.{list_any}
 use Rattle.std.proofs.Common.{ap, ◌∙◌, ⊎_elim, not-suc-le-zero, le_of_suc-le-suc, eq-or-lt_of_le, le_refl, le_antisymm, add-le-add, add-lt-add_of_le_of_lt, eq-zero-or-pos, add-one, arith, eqb→eq, ltb→lt, lt→ltb, add-zero, add-suc}
 use Rattle.std.proofs.lemmas.List.{get_or_default}
@@ -17,6 +17,10 @@ every k = true
 -- every number below n that is in B is in A
 abbrev pub Subset : ℕ → (ℕ → Bool) → (ℕ → Bool) → Type 0
 Subset n B A = (j : ℕ) → j < n → T (B j) → T (A j)
+
+-- the numbers that are not in A
+abbrev pub others : (ℕ → Bool) → ℕ → Bool
+others A k = not (A k)
 
 -- the set A without k
 abbrev pub without : (ℕ → Bool) → ℕ → ℕ → Bool
@@ -198,6 +202,26 @@ count_whole (suc n) A each =
 
 pub count-le : (n : ℕ) (A : ℕ → Bool) → count n A ≤ n
 count-le n A = let all = count_mono n A every (λ j h t. tt) in omega (arith, all, count_whole n every (λ j h. tt))
+
+-- before a member fewer are in than in all; and every count below that of all is reached at a member
+pub count-lt : (n : ℕ) (A : ℕ → Bool) (k : ℕ) → k < n → T (A k) → count k A < count n A
+unfolding count
+count-lt zero A k h a = absurd (not-suc-le-zero h)
+count-lt (suc n) A k h a =
+    ⊎_elim (λ e. rw (e, T→true (A n) (rw e at a)) (omega arith)) (λ l. let below = count-lt n A k l a in omega (arith, below))
+    (eq-or-lt_of_le (le_of_suc-le-suc h))
+
+pub count_reach : (n : ℕ) (A : ℕ → Bool) (i : ℕ) → i < count n A → (k : ℕ) × (k < n) × T (A k) × (count k A ≡ i)
+unfolding count
+count_reach zero A i h = absurd (omega (arith, h))
+count_reach (suc n) A i h = ⊎_elim (λ l. let r = count_reach n A i l in (r.0, le_step r.1, r.2, r.3)) last (lt_or_le i (count n A))
+  where
+    last : count n A ≤ i → (k : ℕ) × (k < suc n) × T (A k) × (count k A ≡ i)
+    last over = go (A n) refl h
+      where
+        go : (b : Bool) → A n ≡ b → i < count n A + pick b 1 0 → (k : ℕ) × (k < suc n) × T (A k) × (count k A ≡ i)
+        go true e l = (n, le_refl (suc n), true→T (A n) e, omega (arith, over, l))
+        go false e l = absurd (omega (arith, over, l))
 
 -- some pass: they number more than 0
 abbrev pub any : ℕ → (ℕ → Bool) → Bool

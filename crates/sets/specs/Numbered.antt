@@ -9,7 +9,7 @@ use Rattle.std.proofs.lemmas.Nat.{pow_pos}
 use Rattle.std.proofs.lemmas.Nat.Bits.{bit_at_lowest, bit_at-lt, bit_at_above, bit_at_cat_low, bit_at_cat_high, same_from_bits_below, shr_and_one, bit_at_and, bit_at_or}
 use Rattle.sets.specs.Choice.{pick, true→T, false→refuted, refuted→false, lt_or_le}
 use Rattle.sets.specs.Bounded.{without, without_still}
-use Rattle.sets.specs.Sum.{sum, sum_more, sum_without}
+use Rattle.sets.specs.Sum.{sum, sum_more, sum_same, sum_without}
 
 -- the set that a number stands for: k is in it where bit k is set
 unfoldable pub numbered : ℕ → ℕ → Bool
@@ -29,6 +29,11 @@ number_none A = refl
 pub number_more : (i : ℕ) (A : ℕ → Bool) → number_of (i + 1) A ≡ number_of i A + pick (A i) (2 ^ i) 0
 unfolding number_of
 number_more i A = sum_more i A (λ k. 2 ^ k)
+
+-- equal members give equal numbers
+pub number_same : (m : ℕ) (A B : ℕ → Bool) → ((k : ℕ) → k < m → A k ≡ B k) → number_of m A ≡ number_of m B
+unfolding number_of
+number_same m A B same = sum_same m A B (λ k. 2 ^ k) (λ k. 2 ^ k) same (λ k h. refl)
 
 next : (m : ℕ) (A : ℕ → Bool) → number_of (suc m) A ≡ pick (A m) 1 0 * 2 ^ m + number_of m A
 unfolding number_of sum
@@ -56,6 +61,10 @@ bit_pick false = refl
 pub numbered_beyond : (m c k : ℕ) → c < 2 ^ m → m ≤ k → numbered c k ≡ false
 unfolding numbered
 numbered_beyond m c k h over = ap (λ (b : ℕ). eqb b 1) (bit_at_above c m k h over)
+
+-- 0 stands for the empty set
+pub numbered_none : numbered 0 ≡ (λ k. false)
+numbered_none = fun_ext (λ k. numbered_beyond 0 0 k (omega arith) (omega arith))
 
 -- the number of a set stands for the set
 pub numbered_number : (m : ℕ) (A : ℕ → Bool) (k : ℕ) → k < m → numbered (number_of m A) k ≡ A k

@@ -1,3 +1,4 @@
 pub mod MarksLaws
 pub mod SubsetsLaws
 pub mod FoundLaws
+pub mod NumberedCores

@@ -15,7 +15,7 @@ use Rattle.assignment.proofs.Preemptive.{less-feasible}
 use Rattle.subsets.specs.Subsets.{short, subsets, fails_without, ruled_out}
 
 -- so many sets
-sets_shifted : (m : ℕ) → m ≤ short → 1 * 2 ^ m % 2 ^ 64 ≡ 2 ^ m
+pub sets_shifted : (m : ℕ) → m ≤ short → 1 * 2 ^ m % 2 ^ 64 ≡ 2 ^ m
 sets_shifted m h = one_shl m 64 (omega arith)
 
 pub sets-le : (m : ℕ) → m ≤ short → 2 ^ m ≤ subsets
@@ -23,6 +23,16 @@ sets-le m h = pow-le-pow_right {n = 2} (omega arith) h
 
 pub set-lt : (m : ℕ) → m ≤ short → (c : ℕ) → c < 1 * 2 ^ m % 2 ^ 64 → c < subsets
 set-lt m h c l = omega (arith, l, sets_shifted m h, sets-le m h)
+
+-- and those that a loop has looked at, as the code counts them: one of them, and where it has looked at all
+pub set_seen : (m : ℕ) → m ≤ short → (c : ℕ) → c < 1 * 2 ^ m % 2 ^ 64 → c < 2 ^ m
+set_seen m h c l = omega (arith, sets_shifted m h, l)
+
+pub all_seen : (m : ℕ) → m ≤ short → (c : ℕ) → c ≤ 1 * 2 ^ m % 2 ^ 64 → 1 * 2 ^ m % 2 ^ 64 ≤ c → c ≡ 2 ^ m
+all_seen m h c most end = omega (arith, sets_shifted m h, most, end)
+
+pub in_table : (m : ℕ) → m ≤ short → (c : ℕ) → c < 2 ^ m → c < subsets
+in_table m h c l = omega (arith, sets-le m h, l)
 
 -- the set of all rules
 pub all-lt : (m : ℕ) → m ≤ short → 1 * 2 ^ m % 2 ^ 64 - 1 < subsets

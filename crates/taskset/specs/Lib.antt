@@ -1,4 +1,5 @@
 pub mod Numbering
+pub mod Outcome
 pub mod Refusals
 pub mod Model
 pub mod Adding

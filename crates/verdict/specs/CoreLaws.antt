@@ -4,12 +4,17 @@ use Rattle.std.specs.Prelude.{◌≡◌, Bool, ◌↔◌}
 use Rattle.std.proofs.Math.Path.{refl, subst, fun_ext}
 use Rattle.std.proofs.Common.{sym, arith, not-suc-le-zero, le_of_suc-le-suc, eq-or-lt_of_le}
 use Rattle.std.proofs.Math.Bool.{true, false}
+use Rattle.std.proofs.Math.ListN.{length}
 use Rattle.std.proofs.Math.Logic.{⊎_elim}
 use Prim.Native.Nat.{ℕ, zero, suc, ◌≤◌, ◌<◌}
 use Rattle.std.proofs.Math.Dec.{T, ltb→lt}
 use Rattle.sets.specs.Marks.{first}
 use Rattle.sets.specs.Choice.{pick, true→T, false→refuted, refuted→false}
 use Rattle.sets.specs.Bounded.{Subset, without, without_still, without_other}
+use Rattle.assignment.specs.Audsley.{Problem, feasible}
+use Rattle.assignment.specs.Cores.{IsCore, rules_in}
+use Rattle.assignment.specs.Decision.{Lawful, feasible_fewer}
+use Rattle.assignment.proofs.CoreOrders.{rules_in_of, rules_in_below, rules_in_was}
 use Rattle.verdict.specs.Core.{tried, cut_of, by_place}
 
 -- the first m rules are below m, and each has a turn by its place
@@ -100,3 +105,27 @@ module _ (feasible : (ℕ → Bool) → Bool) (turn : ℕ → ℕ) (start : ℕ 
       cut_hopeless hopeless =
           let whole : T (feasible start) → ⊥ = λ f. hopeless (antitone (λ j. false) start (λ j h t. absurd t) f) in
           fun_ext (λ j. sym (refuted→false (left j) ((cut_empty whole).1 hopeless j)))
+
+-- ---- of a problem
+
+module _ (p : Problem) (lawful : Lawful p) where
+  -- what is left of a set that has no order, when each rule was tried, is a core
+  pub cut_is_core : (turn : ℕ → ℕ) (start : ℕ → Bool) → ((k : ℕ) → T (start k) → k < length p.rules)
+      → EachTurn turn start (length p.rules) → (T (feasible p start) → ⊥) → IsCore p (cut_of (feasible p) turn start (length p.rules))
+  cut_is_core turn start inside each hopeless =
+      record {
+        clash = cut_infeasible (feasible p) turn start (length p.rules) hopeless;
+        needed = cut_needed (feasible p) turn start (length p.rules) (λ B A fewer. feasible_fewer p B A fewer lawful) each;
+        inside = λ k t. inside k (cut_rules (feasible p) turn start (length p.rules) k t);
+      }
+
+  -- so every set that has none contains one
+  pub core_within : (K : ℕ → Bool) → (T (feasible p K) → ⊥) → (A : ℕ → Bool) × IsCore p A × ((k : ℕ) → T (A k) → T (K k))
+  core_within K hopeless =
+      let start = rules_in p K in
+      let inside : (k : ℕ) → T (start k) → k < length p.rules = rules_in_below p K in (
+        cut_of (feasible p) by_place start (length p.rules),
+        cut_is_core by_place start inside (λ j t. (j, inside j t, refl))
+            (λ t. hopeless (feasible_fewer p K start (rules_in_of p K) lawful t)),
+        λ k t. rules_in_was p K k (cut_rules (feasible p) by_place start (length p.rules) k t),
+      )

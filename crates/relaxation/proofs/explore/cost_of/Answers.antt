@@ -1,9 +1,10 @@
 -- Every rule that is not kept costs its weight. Assumes nothing.
 use Rattle.std.proofs.Common.{◌+◌, ℕ, true, false, ◌∙◌, ap, sym, arith, le_antisymm}
 use Rattle.sets.specs.Sum.{sum, sum-none}
+use Rattle.sets.specs.Bounded.{others}
 use Rattle.sets.specs.Marks.{marked}
 use Rattle.taskset.specs.Views.{lists_of}
-use Rattle.relaxation.specs.Weights.{weight_at, others}
+use Rattle.relaxation.specs.Weights.{weight_at}
 use Rattle.relaxation.proofs.ExploringSteps.{cost_small, cost_next}
 use Rattle.relaxation.proofs.explore.cost_of.Goals as goal
 use Rattle.relaxation.proofs.explore.cost_of.Goals.{then-not-kept-k, else-not-kept-k}

@@ -1,8 +1,9 @@
 -- The cost of the rules before k.
 use Rattle.std.proofs.Common.{◌≡◌}
 use Rattle.sets.specs.Sum.{sum}
+use Rattle.sets.specs.Bounded.{others}
 use Rattle.sets.specs.Marks.{marked}
-use Rattle.relaxation.specs.Weights.{weight_at, others}
+use Rattle.relaxation.specs.Weights.{weight_at}
 use Rattle.relaxation.proofs.explore.cost_of.Given as goal
 
 abbrev pub invariant-loop-k : goal.invariant-loop-k

@@ -1,12 +1,13 @@
 -- A set is taken where it has an order and costs less than the one before. Assumes nothing.
 use Rattle.std.proofs.Common.{◌∙◌, ap, sym, arith, length}
 use Rattle.std.proofs.lemmas.Nat.{pow_pos}
-use Rattle.subsets.proofs.SubsetsLaws.{set-lt}
+use Rattle.subsets.proofs.SubsetsLaws.{set-lt, all_seen, set_seen}
 use Rattle.taskset.specs.Views.{lists_of}
 use Rattle.assignment.specs.Audsley.{problem}
+use Rattle.subsets.specs.Subsets.{feasible_set}
 use Rattle.relaxation.specs.Weights.{cost_of}
-use Rattle.relaxation.specs.Table.{solved_set, cheapest}
-use Rattle.relaxation.proofs.TableSteps.{all_sets, one_set, cheapest_none, cheapest-lt, cheapest_unsolved, cheapest_stays, cheapest_taken}
+use Rattle.relaxation.specs.Table.{cheapest}
+use Rattle.relaxation.proofs.TableSteps.{cheapest_none, cheapest-lt, cheapest_unsolved, cheapest_stays, cheapest_taken}
 use Rattle.relaxation.proofs.table.cheapest.Goals as goal
 use Rattle.relaxation.proofs.table.cheapest.Goals.{then-feasible-set+then-cost-least, then-feasible-set+else-cost-least, else-feasible-set}
 
@@ -22,7 +23,7 @@ pub loop-set-preserved : goal.loop-set-preserved
 loop-set-preserved c =
     let at = c.loop-set in
     let p = problem (lists_of c.args.system) in
-    let known = c.requires.table at.set (one_set _ c.requires.few at.set c.loop-set-test.true) in
+    let known = c.requires.table at.set (set_seen _ c.requires.few at.set c.loop-set-test.true) in
     elim c.if-feasible-set.branch [
       | then-feasible-set+then-cost-least w ↦
           rw (w.best-is, w.least-is)
@@ -39,10 +40,10 @@ loop-set-preserved c =
 pub returns-clause-value : goal.returns-clause-value
 returns-clause-value c =
     c.loop-set.invariant.is
-    ∙ ap (cheapest (problem (lists_of c.args.system)) (solved_set (problem (lists_of c.args.system)))) (all_sets _ c.requires.few c.loop-set.set c.loop-set.auto.set-end c.loop-set-test.false)
+    ∙ ap (cheapest (problem (lists_of c.args.system)) (feasible_set (problem (lists_of c.args.system)))) (all_seen _ c.requires.few c.loop-set.set c.loop-set.auto.set-end c.loop-set-test.false)
 
 pub returns-clause-in_bounds : goal.returns-clause-in_bounds
 returns-clause-in_bounds c =
-    let all = all_sets _ c.requires.few c.loop-set.set c.loop-set.auto.set-end c.loop-set-test.false in
+    let all = all_seen _ c.requires.few c.loop-set.set c.loop-set.auto.set-end c.loop-set-test.false in
     let some = pow_pos (length c.args.system.rules.now) in
     rw c.loop-set.invariant.is (cheapest-lt (problem (lists_of c.args.system)) c.loop-set.set _ (omega (arith, all)) (omega (arith, some)))

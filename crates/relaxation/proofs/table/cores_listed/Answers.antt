@@ -3,10 +3,12 @@ use Rattle.std.proofs.Common.{true, false, ◌∙◌, ap, sym, arith}
 use Rattle.sets.specs.Marks.{marked}
 use Rattle.taskset.specs.Views.{lists_of}
 use Rattle.assignment.specs.Audsley.{problem}
-use Rattle.subsets.proofs.SubsetsLaws.{set-lt}
+use Rattle.subsets.proofs.SubsetsLaws.{set-lt, all_seen, set_seen}
+use Rattle.subsets.proofs.NumberedCores.{core_same}
+use Rattle.subsets.specs.Subsets.{feasible_set}
 use Rattle.relaxation.specs.Disjoint.{listed_with}
-use Rattle.relaxation.specs.Table.{solved_set, cores_listed}
-use Rattle.relaxation.proofs.TableSteps.{all_sets, one_set, core_same, cores_none, cores_next, cores_count, cores_small}
+use Rattle.relaxation.specs.Table.{cores_listed}
+use Rattle.relaxation.proofs.TableSteps.{cores_none, cores_next, cores_count, cores_small}
 use Rattle.relaxation.proofs.table.cores_listed.Goals as goal
 use Rattle.relaxation.proofs.table.cores_listed.Goals.{then-is_core, else-is_core}
 
@@ -32,7 +34,7 @@ pub loop-set-preserved : goal.loop-set-preserved
 loop-set-preserved c =
     let at = c.loop-set in
     let p = problem (lists_of c.args.system) in
-    let known = core_same p (marked c.args.feasible.now) _ at.set c.requires.table (one_set _ c.requires.few at.set c.loop-set-test.true) in
+    let known = core_same p (marked c.args.feasible.now) _ at.set c.requires.table (set_seen _ c.requires.few at.set c.loop-set-test.true) in
     elim c.if-is_core.branch [
       | then-is_core w ↦
           w.listed-is
@@ -46,4 +48,4 @@ loop-set-preserved c =
 pub returns : goal.returns
 returns c =
     c.loop-set.invariant
-    ∙ ap (cores_listed (problem (lists_of c.args.system)) (solved_set (problem (lists_of c.args.system)))) (all_sets _ c.requires.few c.loop-set.set c.loop-set.auto.set-end c.loop-set-test.false)
+    ∙ ap (cores_listed (problem (lists_of c.args.system)) (feasible_set (problem (lists_of c.args.system)))) (all_seen _ c.requires.few c.loop-set.set c.loop-set.auto.set-end c.loop-set-test.false)

@@ -1,7 +1,8 @@
 -- The parts of the answer are those of the problem. Assumes nothing.
 use Rattle.taskset.specs.Views.{lists_of}
 use Rattle.assignment.specs.Audsley.{problem}
-use Rattle.relaxation.proofs.TableSteps.{in_table, tabled_is}
+use Rattle.subsets.proofs.SubsetsLaws.{in_table}
+use Rattle.relaxation.proofs.TableSteps.{tabled_is}
 use Rattle.relaxation.proofs.table.tabled_relaxation.Goals as goal
 
 pub marks-kept-requires : goal.marks-kept-requires

@@ -1,15 +1,15 @@
 -- What an order keeps that a search has found, and that it is feasible. Assumes nothing.
-use Rattle.std.specs.Prelude.{Option, Some, None, IfSome, unwrap_or, ◌≡◌, Bool, true, false, List, ℕ, ◌+◌, ◌-◌, ◌*◌, ◌%◌, ◌^◌, ◌≤◌, ◌<◌, T, eqb, length, get_or, set, map, take}
+use Rattle.std.specs.Prelude.{Option, Some, None, IfSome, unwrap_or, ◌≡◌, Bool, true, false, List, ℕ, ◌+◌, ◌-◌, ◌*◌, ◌%◌, ◌^◌, ◌≤◌, ◌<◌, T, eqb, length, get_or, set, map, take, replicate}
 use Rattle.std.specs.Int.RustNames.{bit_and, bit_or}
 use Rattle.std.proofs.Common.{sym, ap, subst, ◌∙◌, arith, ltb→lt, lt→ltb, lt-ltb, le-ltb, eqb→eq, ext_get_or, get_or-take, get_or-set_same, get_or-set_other}
-use Rattle.std.proofs.lemmas.List.{length-map, length-take-le}
+use Rattle.std.proofs.lemmas.List.{length-map, length-replicate, length-take-le}
 use Rattle.std.proofs.lemmas.Nat.{one_shl}
 use borrow.Author.Count.{below_more}
-use Rattle.sets.specs.Choice.{T→true}
+use Rattle.sets.specs.Choice.{T→true, false→refuted}
 use Rattle.sets.specs.Bounded.{any_found, list_any-any}
 use Rattle.sets.specs.Rank.{rank, Distinct, get_or-rank}
 use Rattle.sets.specs.Pad.{map_at}
-use Rattle.sets.specs.Marks.{length-table, get_or-table}
+use Rattle.sets.specs.Marks.{marked-none, length-table, get_or-table}
 use Rattle.sets.specs.Numbered.{numbered, number_of, number-lt, number_more, numbered_number, numbered_subset, numbered_or}
 use Rattle.taskset.specs.Refusals.{Between}
 use Rattle.taskset.specs.declared.TaskIndex.{TaskIndex}
@@ -23,9 +23,9 @@ use Rattle.assignment.specs.Filling.{lowest_at}
 use Rattle.assignment.specs.Decision.{filled_count, filled_valid}
 use Rattle.assignment.proofs.Preemptive.{lawful, valid_exactly, feasible-order, less-feasible}
 use Rattle.subsets.specs.declared.Found.{Found}
-use Rattle.subsets.specs.Subsets.{short}
+use Rattle.subsets.specs.Subsets.{short, subsets}
 use Rattle.subsets.proofs.SubsetsLaws.{sets-le}
-use Rattle.subsets.specs.Found.{task_at_level, order_of, keeping, covered, IsFeasible, Grown, SomeFeasible}
+use Rattle.subsets.specs.Found.{max_orders, task_at_level, order_of, keeping, covered, IsFeasible, Grown, RightlyFound}
 
 -- ---- the order of a search
 
@@ -141,9 +141,20 @@ module _ (n : ℕ) (rules : List Rule) (order levels : List ℕ) (ranked : (i : 
       let off : keeping rules order k ≡ false = le-ltb _ _ (rw (ranked higher between.higher, ranked lower between.lower) at h) in
       rw (number_more k (keeping rules order), off) (omega (arith, e))
 
--- ---- the sets that orders keep
+-- ---- the sets that orders keep, and those that were tried in vain
 
-module _ (l : Lists) (sound : Sound l) (f : Found) (some : SomeFeasible l f) where
+-- before any trial
+pub right_none : (l : Lists) → RightlyFound l (record { kept = replicate max_orders 0; orders = 0; infeasible = replicate subsets false })
+right_none l =
+    record {
+      long = omega (arith, length-replicate {A = ℕ} max_orders 0);
+      few = omega arith;
+      each = λ i h. absurd (omega (arith, h));
+      marks = length-replicate subsets false;
+      clash = λ c t. absurd (false→refuted _ (ap (λ (A : ℕ → Bool). A c) (marked-none subsets)) t);
+    }
+
+module _ (l : Lists) (sound : Sound l) (f : Found) (some : RightlyFound l f) where
   pub covered_feasible : (c : ℕ) → T (covered f c) → feasible (problem l) (numbered c) ≡ true
   unfolding covered
   covered_feasible c t =

@@ -12,7 +12,7 @@ ghost use Rattle.taskset.specs.Views.{lists_of};
 ghost use Rattle.assignment.specs.Orders.{IsOrder};
 ghost use Rattle.assignment.specs.Audsley.{feasible, problem};
 ghost use Rattle.subsets.specs.Subsets.{short, subsets, ruled_out, core_set, FeasibleSubsets};
-ghost use Rattle.subsets.specs.Found.{max_orders, order_of, keeping, covered, added, IsFeasible, Grown, SomeFeasible};
+ghost use Rattle.subsets.specs.Found.{max_orders, order_of, keeping, covered, added, IsFeasible, Grown, RightlyFound};
 
 use assignment::{Search, trial};
 use taskset::{MAX_RULES, MAX_TASKS, System};
@@ -82,36 +82,24 @@ fn kept_with(system: System<'_>, set: usize) -> Option<usize>
     Some(rules_kept(system, &search))
 }
 
-// Where some order keeps one rule more than a set has, what that order keeps; and so on, rule by rule.
-fn grown(system: System<'_>, set: usize) -> usize
-    requires few { length system.rules.now ≤ short }
-    requires feasible { IsFeasible (lists_of system) set }
-    ensures { Grown (lists_of system.entry) set result }
-{
-    let mut kept = set;
-    for k in 0..system.rules.len() {
-        if kept >> k & 1 == 0 {
-            kept = kept_with(system, kept | (1 << k)).unwrap_or(kept);
-        }
-    }
-    kept
-}
-
-// The sets of rules that orders keep which were found to meet every deadline.
+// The sets of rules that orders keep which were found to meet every deadline, and marks of the sets that were tried in vain: no order
+// keeps their rules and meets every deadline.
 #[derive(Clone, Copy)]
 struct Found {
     kept: [usize; MAX_ORDERS],
     orders: usize,
+    infeasible: [bool; SUBSETS],
 }
 
 impl Found {
-    // No order is found yet.
+    // No set is tried yet.
     fn none() -> Found
-        ensures { (l : Lists) → SomeFeasible l result }
+        ensures { (l : Lists) → RightlyFound l result }
     {
         Found {
             kept: [0; MAX_ORDERS],
             orders: 0,
+            infeasible: [false; SUBSETS],
         }
     }
 
@@ -136,22 +124,60 @@ impl Found {
         }
     }
 
-    // Looks for an order that keeps the rules of a set and meets every deadline: among those found, then by a trial.
+    // All that some order keeps which keeps the rules of this set and meets every deadline; none where there is no such order. A set
+    // that was tried in vain is not tried again.
+    fn try_once(&mut self, system: System<'_>, set: usize) -> Option<usize>
+        requires set_in_bounds { set < subsets }
+        requires few { length system.rules.now ≤ short }
+        requires right { RightlyFound (lists_of system) self.old }
+        ensures found { is_some result ≡ feasible (problem (lists_of system.entry)) (numbered set) }
+        ensures kept { IfSome result (Grown (lists_of system.entry) set) }
+        ensures right { RightlyFound (lists_of system.entry) self.new }
+    {
+        if self.infeasible[set] {
+            return None;
+        }
+        let kept = kept_with(system, set);
+        self.infeasible[set] = kept.is_none();
+        kept
+    }
+
+    // Where some order keeps one rule more than a set has, what that order keeps; and so on, rule by rule. No order that was found before
+    // keeps these rules if none keeps those of the set.
+    fn grown(&mut self, system: System<'_>, set: usize) -> usize
+        requires few { length system.rules.now ≤ short }
+        requires feasible { IsFeasible (lists_of system) set }
+        requires right { RightlyFound (lists_of system) self.old }
+        ensures value { Grown (lists_of system.entry) set result }
+        ensures right { RightlyFound (lists_of system.entry) self.new }
+    {
+        let mut kept = set;
+        for k in 0..system.rules.len() {
+            if kept >> k & 1 == 0 {
+                kept = self.try_once(system, kept | (1 << k)).unwrap_or(kept);
+            }
+        }
+        kept
+    }
+
+    // Looks for an order that keeps the rules of a set and meets every deadline: among those found, then by a trial. While there is room
+    // for it, the order is grown and remembered.
     fn look_for(&mut self, system: System<'_>, set: usize) -> bool
         requires set_in_bounds { set < subsets }
         requires few { length system.rules.now ≤ short }
-        requires found { SomeFeasible (lists_of system) self.old }
+        requires right { RightlyFound (lists_of system) self.old }
         ensures value { result ≡ feasible (problem (lists_of system.entry)) (numbered set) }
-        ensures found { SomeFeasible (lists_of system.entry) self.new }
+        ensures right { RightlyFound (lists_of system.entry) self.new }
     {
         if self.covers(set) {
             return true;
         }
-        let Some(kept) = kept_with(system, set) else {
+        let Some(kept) = self.try_once(system, set) else {
             return false;
         };
         if self.orders < MAX_ORDERS {
-            self.add(grown(system, kept));
+            let grown = self.grown(system, kept);
+            self.add(grown);
         }
         true
     }
@@ -179,7 +205,8 @@ pub fn is_core(feasible: &[bool; SUBSETS], set: usize) -> bool
 }
 
 // For each set of rules, by its number, whether it is feasible. The set of all rules is tried first, since an order that keeps them
-// keeps those of every set.
+// keeps those of every set. No set is tried twice: as long as there is room for orders, one that was tried is marked, or an order that
+// is remembered keeps its rules; without room each is looked at once.
 pub fn feasible_subsets(system: System<'_>) -> [bool; SUBSETS]
     requires { length system.rules.now ≤ short }
     ensures { FeasibleSubsets (lists_of system.entry) result }

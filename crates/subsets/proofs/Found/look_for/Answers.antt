@@ -7,5 +7,5 @@ use Rattle.subsets.proofs.Found.look_for.Goals as goal
 
 pub returns-then-covers-clause-value : goal.returns-then-covers-clause-value
 returns-then-covers-clause-value c =
-    sym (covered_feasible (lists_of c.args.system) c.args.system.sound c.args.self.now c.requires.found c.args.set
+    sym (covered_feasible (lists_of c.args.system) c.args.system.sound c.args.self.now c.requires.right c.args.set
     (true→T _ (sym c.covers.ensures ∙ c.if-covers.true)))

@@ -1,7 +1,9 @@
 pub mod Choice
 pub mod Bounded
+pub mod Collected
 pub mod Sum
 pub mod Numbered
+pub mod Antichains
 pub mod Maximum
 pub mod Rank
 pub mod Pad

@@ -10,7 +10,7 @@ use Rattle.sets.specs.Bounded.{every, all_at}
 use Rattle.sets.specs.Maximum.{maximum_at, maximum-le}
 use Rattle.sets.specs.Items.{maximum-items}
 use Rattle.taskset.specs.declared.refusals.Refusal.{Refusal}
-use Rattle.taskset.specs.declared.refusals.Refusal.TheVariants.{Period, Execution, Deadline, Jitter, Section, SameTask, BadLine, LongText, ShortBuffer, FullTasks, NoSuchTask, FullRules, NoTasks, NotMade, Weight, Budget}
+use Rattle.taskset.specs.declared.refusals.Refusal.TheVariants.{Period, Execution, Deadline, Jitter, Section, SameTask, BadLine, LongText, ShortBuffer, FullTasks, NoSuchTask, FullRules, NoTasks, NotMade, Weight, Budget, ManyRules}
 use Rattle.taskset.specs.declared.Task.{Task}
 use Rattle.taskset.specs.declared.Rule.{Rule}
 use Rattle.taskset.specs.declared.Call.{Call}
@@ -21,7 +21,7 @@ use Rattle.taskset.specs.Refusals.{resources, section_on, longest_section, uses_
 use Rattle.taskset.specs.Refusals.{Condition, full_by, first_of, outside, row_refusals, index_refusals, weight_refusals, refusal_by, entry_fits}
 
 -- a refusal's number is a small one
-pub number_small : (r : Refusal) → number r ≤ 16
+pub number_small : (r : Refusal) → number r ≤ 24
 number_small Period = omega arith
 number_small Execution = omega arith
 number_small Deadline = omega arith
@@ -38,6 +38,7 @@ number_small NoTasks = omega arith
 number_small NotMade = omega arith
 number_small Weight = omega arith
 number_small Budget = omega arith
+number_small ManyRules = omega arith
 
 -- a test says that a call is taken
 pub ok_exactly : (r : Result (Unit {0}) Refusal) → T (is_ok r) ↔ (r ≡ Ok tt)

@@ -29,6 +29,8 @@ pub enum Refusal {
     // A rule's weight is out of its range, and so is a budget.
     Weight = 15,
     Budget = 16,
+    // The set has more rules than a short list.
+    ManyRules = 24,
 }
 
 impl From<Refusal> for u64 {

@@ -1,0 +1,3 @@
+pub mod EveryCoreLaws
+pub mod EnumeratingLaws
+pub mod Enumerations

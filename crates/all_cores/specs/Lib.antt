@@ -1,0 +1,2 @@
+pub mod Enumerating
+pub mod EveryCore

@@ -4,14 +4,15 @@
     cases.py PATH/enumerate.py STAGE SEED COUNT DIR
 
 STAGE is the letter of the last request of document 02 that holds, here f. DIR/stdin gets, joined by form feeds
-(byte 12), questions of three kinds, of each the drawn ones and then those below; COUNT are drawn of the first two,
-a third as many of the third. The first line is the question: `trial` and the marks, `longest` and a place, or `drop`
-and a budget. Then comes the text that it is asked of. DIR/stdout gets the answers. Those to the first two are the
-enumerating program's own, a line for each: of a trial `yes` where one of the orders that meet every deadline keeps
-the marked rules. The questions below also carry the answer that is known of them, and the two must agree. What to
-drop is left free: there the answers are those of `queries`, built before by `rt run`, and the enumerating program
-says what is wrong with each. Of the questions below the least weight is known too, or the whole answer. Anything
-wrong ends the script. The stored files have SEED 1 and COUNT 600.
+(byte 12), questions of four kinds, of each the drawn ones and then those below; COUNT are drawn of the first two,
+a third as many of the third, and of the fourth as many as come among three times COUNT with the second. The first line is the
+question: `trial` and the marks, `longest` and a place, `drop` and a budget, or `cores` and the length of the buffer.
+Then comes the text that it is asked of. DIR/stdout gets the answers. But for what to drop, refusal 9, and lists of which
+the script says what each way out drops, they are the enumerating program's own: of a trial `yes` where one of the orders that meet every deadline keeps the marked rules. The
+questions below also carry the answer that is known of them, and the two must agree. What to drop is left free: there
+the answers are those of `queries`, built before by `rt run`, and the enumerating program says what is wrong with
+each. Of the questions below the least weight is known too, or the whole answer. Anything wrong ends the script. The
+stored files have SEED 1 and COUNT 600.
 """
 import itertools
 import json
@@ -32,6 +33,7 @@ QUERIES = os.path.join(HERE, "out", "queries")
 RULES = 128  # places for rules, used or not
 K4 = A.replace(b"12\t12", b"12\t9")
 SHORT, TABLE = 12, 4096  # so many rules, with so great a budget, leave no way but the cheapest
+CORES = 924  # a short list has at most so many
 BUDGETS = (1, 4095, 4096, 10000)
 
 
@@ -94,13 +96,13 @@ def made_trials():
         yield marks, A + r(1, 3), bad(4, 11)
 
 
-def drawn_longest(program, stage, seed, count):
-    """The first of twice as many, since from f on the enumerating program draws questions of other kinds among them."""
+def drawn_verbs(program, stage, seed, count):
+    """COUNT questions of `longest` and every one of `cores`, of three times COUNT drawn ones; a tenth of these are of `cores`."""
     with tempfile.NamedTemporaryFile("r") as lines:
-        subprocess.run([sys.executable, program, "--stage", stage, "--verb-vectors", seed, str(2 * int(count)), lines.name], check=True)
-        cases = [case for case in map(json.loads, lines) if case["args"][0] == "longest"]
-    for case in cases[:int(count)]:
-        yield "\t".join(case["args"]), case["text"].encode(), case["answer"]
+        subprocess.run([sys.executable, program, "--stage", stage, "--verb-vectors", seed, str(3 * int(count)), lines.name], check=True)
+        cases = [(case["args"], case["text"].encode(), case["answer"]) for case in map(json.loads, lines)]
+    longest = [case for case in cases if case[0][0] == "longest"]
+    return longest[:int(count)], [case for case in cases if case[0][0] == "cores"]
 
 
 def longest(place, figure):
@@ -283,6 +285,64 @@ def made_drops():
         yield budget, example("packing-line"), 10, None
 
 
+def every(*cores):
+    """The answer with these cores, each the places of its rules."""
+    numbered = sorted((sum(1 << place for place in core), core) for core in cores)
+    return (line_of("cores", len(cores)) + b"".join(line_of(str(number), *core) for number, core in numbered)).decode()
+
+
+def made_cores():
+    """The length of a buffer, a text, the answer; and what each way out drops, where there are too many orders to write out."""
+    # no tasks, a rule too many, and a short buffer, in this order; refused texts before them
+    for room in (0, 1, CORES - 1, CORES):
+        yield room, b"", bad(0, 13), None
+        for rules in (SHORT + 1, SHORT + 2, RULES):
+            yield room, EASY * 2 + r(0, 1) * rules, bad(0, 24), None
+            yield room, K4 + r(0, 1) * rules, bad(0, 24), None
+        yield room, GOOD[:-1], bad(1, 7), None
+        yield room, A + r(1, 3), bad(4, 11), None
+        yield room, A + r(1, 0) + r(0, 1, 1001), bad(5, 15), None
+    for room in (0, 1, 2, SHORT, TABLE // 16, CORES - 1):
+        for text in (GOOD, A, K4, A + r(0, 1) + r(1, 0), EASY * 2 + r(0, 1) * SHORT):
+            yield room, text, bad(0, 9), None
+    for room in (CORES, CORES + 1, 1000):
+        # none, and the empty one
+        for text in (GOOD, A, B + r(1, 0), EASY * 2 + r(0, 1) * SHORT, example("door-drive")):
+            yield room, text, every(), None
+        for text in (K4, K4 + r(0, 1) + r(1, 0), t(2, 4, 1, 0), EASY + t(2, 4, 1, 0) + r(0, 1) * SHORT, example("carton-folder")):
+            yield room, text, every(()), None
+        # K6, K7 and K8
+        yield room, A + r(1, 0) + r(2, 0) + r(2, 1), every((1,), (2,)), None
+        yield room, A + r(0, 1) + r(1, 0), every((0, 1)), None
+        yield room, B + r(1, 0) + r(2, 0), every((0, 1)), None
+    # equal rules, apart and against another; weights play no part
+    for weight in (1, 2, 1000):
+        yield CORES, A + r(2, 1, weight) * 2, every((0,), (1,)), None
+        yield CORES, A + r(0, 1, weight) + r(1, 0) + r(0, 1), every((0, 1), (1, 2)), None
+        yield CORES, EASY * 2 + r(0, 1, weight) * 6 + r(1, 0) * 6, every(*itertools.product(range(6), range(6, SHORT))), None
+    # each place alone, the first and the last with the others, and a circle of all
+    for place in range(SHORT):
+        yield CORES, A + r(0, 1) * place + r(2, 0) + r(0, 1) * (SHORT - 1 - place), every((place,)), None
+    yield CORES, EASY * 2 + r(0, 1) + r(1, 0) * (SHORT - 1), every(*((0, place) for place in range(1, SHORT))), None
+    yield CORES, EASY * 2 + r(0, 1) * (SHORT - 1) + r(1, 0), every(*((place, SHORT - 1) for place in range(SHORT - 1))), None
+    for size in (2, 5, 8):
+        yield CORES, EASY * size + b"".join(r(k, (k + 1) % size) for k in range(size)), every(tuple(range(size))), None
+    yield (CORES, EASY * SHORT + b"".join(r(k, (k + 1) % SHORT) for k in range(SHORT)), every(tuple(range(SHORT))),
+           [frozenset({place}) for place in range(SHORT)])
+    # of 12 rules any 5 can be kept and no 6: as many cores as there can be; and any 6, and any 7
+    for kept in (5, 6, 7):
+        low = t(1, 100, kept + 1, 0) + t(1, 100, 100, 0) * SHORT + b"".join(r(k + 1, 0) for k in range(SHORT))
+        ways = [frozenset(way) for way in itertools.combinations(range(SHORT), SHORT - kept)]
+        yield CORES, low, every(*itertools.combinations(range(SHORT), kept + 1)), ways
+
+
+def listed(enumerating, stage, room, text, ways):
+    """The enumerating program's answer; a short buffer is refused last."""
+    with mock.patch.object(enumerating, "all_broken", enumerating.all_broken if ways is None else lambda tasks, rules: ways):
+        answer = enumerating.answer(text, stage, ("cores",))
+    return bad(0, 9) if room < CORES and answer.startswith("cores") else answer
+
+
 def piece(question, text):
     return question.encode() + b"\n" + text
 
@@ -337,8 +397,9 @@ def main(program, stage, seed, count, room):
         take("trial\t" + marks, text, asked(enumerating, stage, marks, text))
     for marks, text, want in made_trials():
         known("trial\t" + marks, text, asked(enumerating, stage, marks, text), want)
-    for case in drawn_longest(program, stage, seed, count):
-        take(*case)
+    drawn_longest, drawn_cores = drawn_verbs(program, stage, seed, count)
+    for question, text, answer in drawn_longest:
+        take("\t".join(question), text, answer)
     for place, text, want in made_longest():
         question = ("longest", str(place))
         known("\t".join(question), text, enumerating.answer(text, stage, question), want)
@@ -351,8 +412,12 @@ def main(program, stage, seed, count, room):
     for (budget, text, want, ways), drop, got in zip(made, drops[len(drawn):], answers[len(drawn):]):
         wrong = unlike(budget, text, got, want) + wrong_drop(enumerating, stage, budget, text, got, ways)
         must(not wrong, *drop, got, wrong)
+    for _, text, answer in drawn_cores:
+        take("cores\t%d" % CORES, text, answer)
+    for size, text, want, ways in made_cores():
+        known("cores\t%d" % size, text, listed(enumerating, stage, size, text, ways), want)
     store(room, [piece(question, text) for question, text, _ in cases], [answer for _, _, answer in cases])
-    print("%d cases, of which %d are drawn" % (len(cases), 2 * int(count) + len(drawn)))
+    print("%d cases, of which %d are drawn" % (len(cases), 2 * int(count) + len(drawn) + len(drawn_cores)))
 
 
 if __name__ == "__main__":

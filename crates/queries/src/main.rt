@@ -1,8 +1,9 @@
 // Stored cases on standard input, parted by form feeds: a line with a question, and the text that it is asked of. Each is
-// answered by a line, and rules to drop by a line and those of the rules and of the cores.
+// answered by a line, rules to drop by a line and those of the rules and of the cores, and every core by a line and one for each core.
 
 #![tactic(auto)]
 
+use all_cores::all_cores;
 use feasibility::try_rules;
 use lines::number_from;
 use lines::reader::Reader;
@@ -10,16 +11,21 @@ use relaxation::{Relaxed, relax};
 use sensitivity::longest_execution;
 use std::io;
 use std::io::Read;
+use subsets::SHORT;
 use taskset::{MAX_RULES, Refusal, Rule, TaskIndex, TaskSet};
 use text::{Reading, RefusedAt, read};
 
 const FORM_FEED: u8 = 12;
+
+// The longest buffer for cores.
+const ROOM: usize = 1_000;
 
 // What a question gets.
 enum Reply {
     Trial(bool),
     Longest(u64, Option<u64>),
     Drop(Relaxed),
+    Cores(usize, [u16; ROOM]),
     NoQuestion,
 }
 
@@ -40,7 +46,7 @@ fn number_after(question: &[u8], word: &[u8]) -> Option<u64> {
 }
 
 // The answer to a question. `trial` and digits ask for a trial, `longest` and a place how long the task there may run, `drop` and a
-// budget for the cheapest rules to give up.
+// budget for the cheapest rules to give up, `cores` and the length of a buffer for every core.
 fn answer(question: &[u8], reading: &Reading) -> Result<Reply, RefusedAt> {
     reading.answer?;
     if let Some(digits) = question.strip_prefix(b"trial\t") {
@@ -52,6 +58,12 @@ fn answer(question: &[u8], reading: &Reading) -> Result<Reply, RefusedAt> {
     }
     if let Some(budget) = number_after(question, b"drop\t") {
         return Ok(Reply::Drop(relax(&reading.set, budget)?));
+    }
+    if let Some(room) = number_after(question, b"cores\t") {
+        let mut numbers = [0; ROOM];
+        let room = (room as usize).min(ROOM);
+        let count = all_cores(&reading.set, &mut numbers[..room])?;
+        return Ok(Reply::Cores(count, numbers));
     }
     Ok(Reply::NoQuestion)
 }
@@ -84,6 +96,21 @@ fn print_relaxed(rt: &impl Print, rules: &[Rule; MAX_RULES], relaxed: &Relaxed) 
     Ok(())
 }
 
+// Every core: a line with the count, and for each its number and the places of its rules.
+fn print_cores(rt: &impl Print, count: usize, numbers: &[u16; ROOM]) -> io::Result<()> {
+    println!(rt; "cores\t{count}")?;
+    for number in numbers.iter().take(count) {
+        print!(rt; "{number}")?;
+        for place in 0..SHORT {
+            if number >> place & 1 == 1 {
+                print!(rt; "\t{place}")?;
+            }
+        }
+        println!(rt)?;
+    }
+    Ok(())
+}
+
 // Answers each case.
 fn main(rt: HostRuntime) -> io::Result<()> {
     let mut cases = Vec::new(rt.alloc());
@@ -100,6 +127,7 @@ fn main(rt: HostRuntime) -> io::Result<()> {
             )?,
             Ok(Reply::Longest(_, None)) => println!(rt; "none")?,
             Ok(Reply::Drop(relaxed)) => print_relaxed(&rt, &reading.set.rules, &relaxed)?,
+            Ok(Reply::Cores(count, numbers)) => print_cores(&rt, count, &numbers)?,
             Ok(Reply::NoQuestion) => println!(rt; "no question")?,
             Err(at) => println!(rt; "bad\t{}\t{}", at.line, u64::from(at.refusal))?,
         }

@@ -1,7 +1,8 @@
 /*
  * bench.c: times orders_solve beside plain_solve on task sets of several kinds,
- * and how long a task may run and which rules to give up beside trials, and
- * prints the tables in Markdown. With the word `check` it only compares.
+ * and how long a task may run, which rules to give up and every core beside
+ * trials, and prints the tables in Markdown. With the word `check` it only
+ * compares.
  *
  * A set is timed only after both calls gave the same number and left the same
  * bytes. The calls take turns in batches, and the least time of a call counts.
@@ -292,14 +293,24 @@ static void one_circle(struct text *t, unsigned n, unsigned m)
     circles(t, n, m, m);
 }
 
-/* m rules that set as many tasks above the first one, which meets its deadline below any seven of them, and no more. */
-static void seven(struct text *t, unsigned n, unsigned m)
+/* m rules that set as many tasks above the first one, which meets its deadline below any `most` of them, and no more. */
+static void at_most(struct text *t, unsigned n, unsigned most, unsigned m)
 {
-    task(t, 1000, SECOND, 8000, 0);
+    task(t, 1000, SECOND, 1000 * (1 + most), 0);
     for (unsigned i = 1; i < n; i++)
         task(t, 1000, SECOND, SECOND, 0);
     for (unsigned k = 0; k < m; k++)
         rule(t, 1 + k, 0);
+}
+
+static void five(struct text *t, unsigned n, unsigned m)
+{
+    at_most(t, n, 5, m);
+}
+
+static void seven(struct text *t, unsigned n, unsigned m)
+{
+    at_most(t, n, 7, m);
 }
 
 /* The same below those six tasks and small ones, of which each is late until its own level is reached. */
@@ -656,8 +667,8 @@ static void print_lengths(const struct family *f, size_t count)
 
 /* ---- drawn sets ---- */
 
-/* The greatest weight and budget; and rules of a short list, and how many sets of them there are. */
-enum { MAX_WEIGHT = 1000, MAX_BUDGET = 10000, SHORT = 12, SUBSETS = 4096 };
+/* The greatest weight and budget; rules of a short list, and how many sets of them there are; and how many such lists are drawn. */
+enum { MAX_WEIGHT = 1000, MAX_BUDGET = 10000, SHORT = 12, SUBSETS = 4096, SHORT_DRAWN = 20 };
 
 /* The rules of a set: for each the higher task, the lower one and the weight. */
 static unsigned rules_of(const struct text *t, unsigned (*rules)[3])
@@ -960,11 +971,12 @@ static const struct kind clashing[] = {
     { "60 to 128 rules", 48, { 16, FULL }, { 60, RULES }, { 8, 43 }, { 2, 12 }, { 5, 18 } },
 };
 
-static const struct kind drawn_short = { "12 rules", 20, { FULL, FULL }, { SHORT, SHORT }, { 25, 65 }, { 5, 25 }, { 2, 8 } };
+static const struct kind drawn_short = { "12 rules", SHORT_DRAWN, { FULL, FULL }, { SHORT, SHORT }, { 25, 65 }, { 5, 25 }, { 2, 8 } };
 
 /* The weights that a drawn set is given, from 1 to these. */
 static const unsigned weights[] = { MAX_WEIGHT, 10, 1 };
 
+/* Short lists. The last one has the most cores, and stands only in their table. */
 static const struct family shorts[] = {
     { "an order", rising, FULL, SHORT },
     { "eight resources, an order", sharing, FULL, SHORT },
@@ -976,14 +988,19 @@ static const struct family shorts[] = {
     { "any 7 can be kept, but no 8", seven, FULL, SHORT },
     { "hostile, all can be kept", hostile, FULL, SHORT },
     { "hostile, any 7 can be kept, but no 8", hostile_seven, FULL, SHORT },
+    { "any 5 can be kept, but no 6", five, FULL, SHORT },
 };
 
-/* How many kinds, weights and short lists; how many sets of a kind are checked, and within which budget, if not short. */
+/*
+ * How many kinds, weights and short lists; how many sets of a kind are checked, and of how many of these, if short, every core;
+ * and within which budget, if not short.
+ */
 enum {
     KINDS = sizeof clashing / sizeof clashing[0],
     WEIGHTS = sizeof weights / sizeof weights[0],
     SHORTS = sizeof shorts / sizeof shorts[0],
     CHECKED = 12,
+    CORES_CHECKED = 4,
     SOME_BUDGET = 1000,
 };
 
@@ -1110,86 +1127,174 @@ static void write_trials(const struct text *t, unsigned n)
     need(fclose(f) == 0, "write the cases");
 }
 
-/* The least weight of what is not in a set that has an order, by the answers. */
-static unsigned least_weight(unsigned (*rules)[3], unsigned n)
+/* For which sets of a short list an order is found, by the answers. */
+static void read_trials(unsigned n, char *found)
 {
-    unsigned least = MAX_WEIGHT * SHORT;
     char line[16];
     FILE *f = fopen(answers, "rb");
     for (unsigned set = 0; set < 1u << n; set++) {
-        unsigned weight = 0;
         need(f != NULL && fgets(line, sizeof line, f) != NULL, "read the answers");
-        for (unsigned k = 0; k < n; k++)
-            weight += set >> k & 1 ? 0 : rules[k][2];
-        if (strcmp(line, "yes\n") == 0 && weight < least)
-            least = weight;
+        found[set] = strcmp(line, "yes\n") == 0;
     }
     fclose(f);
+}
+
+/* The least weight of what is not in a set that has an order. */
+static unsigned least_weight(unsigned (*rules)[3], unsigned n, const char *found)
+{
+    unsigned least = MAX_WEIGHT * SHORT;
+    for (unsigned set = 0; set < 1u << n; set++) {
+        unsigned weight = 0;
+        for (unsigned k = 0; k < n; k++)
+            weight += set >> k & 1 ? 0 : rules[k][2];
+        if (found[set] && weight < least)
+            least = weight;
+    }
     return least;
 }
 
-/* A row of the short lists: a set, or several together. */
-static void print_short(const char *name, double dropped, double cores, double took, double trials)
+/* ---- every core ---- */
+
+/* The question, with the length of a buffer that is long enough. */
+static const char *const every_core = "cores\t924";
+
+/* Is a set of a short list a core, by which sets have an order? */
+static int is_core_set(const char *found, unsigned set)
 {
-    printf("| %s | %.4g | %.4g | %.1f | %.1f | ", name, dropped, cores, 1e3 * took, 1e3 * trials);
-    print_ratio(took / trials);
+    int right = !found[set];
+    for (unsigned k = 0; k < SHORT; k++)
+        right &= !(set >> k & 1) || found[set - (1u << k)];
+    return right;
+}
+
+/* The line of a core. */
+static void write_core(char *line, unsigned set)
+{
+    line += sprintf(line, "%u", set);
+    for (unsigned k = 0; k < SHORT; k++)
+        if (set >> k & 1)
+            line += sprintf(line, "\t%u", k);
+    strcpy(line, "\n");
+}
+
+/* Asks for every core of a short list, and sees that each is listed in its place and nothing else; gives how many there are. */
+static unsigned list_cores(const char *name, const struct text *t, unsigned n, const char *found)
+{
+    char line[64], core[64];
+    unsigned told = 0, cores = 0;
+    ask(t, every_core, 1, line, sizeof line);
+    FILE *f = fopen(answers, "rb");
+    need(f != NULL && fgets(line, sizeof line, f) != NULL, "read the answers");
+    int right = sscanf(line, "cores\t%u\n", &told) == 1;
+    for (unsigned set = 0; set < 1u << n; set++)
+        if (is_core_set(found, set)) {
+            write_core(core, set);
+            right = right && fgets(line, sizeof line, f) != NULL && strcmp(line, core) == 0;
+            cores++;
+        }
+    right = right && told == cores && fgets(line, sizeof line, f) == NULL;
+    fclose(f);
+    if (right)
+        return cores;
+    fprintf(stderr, "%s: %u cores, and a wrong answer, %s", name, cores, line);
+    exit(1);
+}
+
+/* ---- short lists ---- */
+
+/* What is measured of a short list: for each of two calls what it tells and then its time, and the time of the trials. */
+enum { DROPPED, DROP_CORES, DROP_TIME, CORES, CORES_TIME, TRIALS_TIME, FIGURES };
+
+/* A call's table: the columns for what it tells, the first figure in them, and its time, which stands behind them. */
+struct table {
+    const char *told;
+    unsigned first, time;
+};
+
+static const struct table drop_table = { "rules dropped | cores listed", DROPPED, DROP_TIME }, core_table = { "cores", CORES, CORES_TIME };
+
+/* What a call tells, and three columns more. */
+static void print_head(const struct table *of)
+{
+    printf("\n| 12 rules over 64 tasks | %s | the call, ms | 4,096 trials, ms | the call / 4,096 trials |\n|---", of->told);
+    for (unsigned k = of->first; k < of->time + 3; k++)
+        printf("|---:");
+    printf("|\n");
+}
+
+/* A row: a list, or several together. */
+static void print_short(const struct table *of, const char *name, const double *figures)
+{
+    printf("| %s", name);
+    for (unsigned k = of->first; k < of->time; k++)
+        printf(" | %.4g", figures[k]);
+    printf(" | %.1f | %.1f | ", 1e3 * figures[of->time], 1e3 * figures[TRIALS_TIME]);
+    print_ratio(figures[of->time] / figures[TRIALS_TIME]);
     printf(" |\n");
     fflush(stdout);
 }
 
-/* Asks what to give up of a short list, and tries each set of its rules; gives the two times. */
-static void measure_short(const char *name, const struct text *t, struct relaxed *r, double *took, double *trials)
+/* Asks what to give up of a short list and for every core, and tries each set of its rules. */
+static void measure_short(const char *name, const struct text *t, double *figures)
 {
+    struct relaxed r;
     unsigned rules[RULES][3], n = rules_of(t, rules);
-    char answer[64];
-    give_up(name, t, MAX_BUDGET, r);
-    *took = call_within(t, MAX_BUDGET);
+    char answer[64], found[SUBSETS];
+    give_up(name, t, MAX_BUDGET, &r);
+    figures[DROPPED] = rules_dropped(t, &r);
+    figures[DROP_CORES] = r.cores;
+    figures[DROP_TIME] = call_within(t, MAX_BUDGET);
     double reading = 1e9, least = 1e9;
     for (unsigned k = 0; k < RUNS && (k == 0 || least < LONG); k++) {
         reading = lesser(reading, ask(t, "", 1u << n, answer, sizeof answer));
         write_trials(t, n);
         least = lesser(least, run_program());
     }
-    *trials = least - reading;
-    need(least_weight(rules, n) == r->weight, "find the weight by trials");
+    figures[TRIALS_TIME] = least - reading;
+    read_trials(n, found);
+    need(least_weight(rules, n, found) == r.weight, "find the weight by trials");
+    figures[CORES] = list_cores(name, t, n, found);
+    figures[CORES_TIME] = call(t, every_core);
 }
 
 /* Drawn ones, the mean and the one with the greatest ratio. */
-static void print_drawn_shorts(const struct kind *kind)
+static void print_drawn_shorts(const struct table *of, double (*draws)[FIGURES])
 {
-    static struct text t;
-    double sum[4] = { 0 }, worst[4] = { 0, 0, 0, 1 };
-    state = 0;
-    for (unsigned i = 0; i < kind->sets; i++) {
-        struct relaxed r;
-        double row[4];
-        draw_set(kind, &t);
-        measure_short(kind->name, &t, &r, &row[2], &row[3]);
-        row[0] = rules_dropped(&t, &r);
-        row[1] = r.cores;
-        for (unsigned k = 0; k < 4; k++)
-            sum[k] += row[k] / kind->sets;
-        if (row[2] / row[3] > worst[2] / worst[3])
-            memcpy(worst, row, sizeof worst);
+    double mean[FIGURES] = { 0 }, *worst = draws[0];
+    for (unsigned i = 0; i < SHORT_DRAWN; i++) {
+        for (unsigned k = 0; k < FIGURES; k++)
+            mean[k] += draws[i][k] / SHORT_DRAWN;
+        if (draws[i][of->time] / draws[i][TRIALS_TIME] > worst[of->time] / worst[TRIALS_TIME])
+            worst = draws[i];
     }
-    print_short("drawn with clashes, mean", sum[0], sum[1], sum[2], sum[3]);
-    print_short("drawn with clashes, the worst", worst[0], worst[1], worst[2], worst[3]);
+    print_short(of, "drawn with clashes, mean", mean);
+    print_short(of, "drawn with clashes, the worst", worst);
 }
 
 static void print_shorts(void)
 {
     static struct text t;
-    printf("\n| 12 rules over 64 tasks | rules dropped | cores listed | the call, ms | 4,096 trials, ms | the call / 4,096 trials |\n");
-    printf("|---|---:|---:|---:|---:|---:|\n");
+    double made[SHORTS][FIGURES], draws[SHORT_DRAWN][FIGURES];
+    print_head(&drop_table);
     for (size_t k = 0; k < SHORTS; k++) {
-        struct relaxed r;
-        double took, trials;
         make(&shorts[k], &t);
-        measure_short(shorts[k].name, &t, &r, &took, &trials);
-        print_short(shorts[k].name, rules_dropped(&t, &r), r.cores, took, trials);
+        measure_short(shorts[k].name, &t, made[k]);
+        if (k + 1 < SHORTS)
+            print_short(&drop_table, shorts[k].name, made[k]);
     }
-    print_drawn_shorts(&drawn_short);
+    state = 0;
+    for (unsigned i = 0; i < SHORT_DRAWN; i++) {
+        draw_set(&drawn_short, &t);
+        measure_short(drawn_short.name, &t, draws[i]);
+    }
+    print_drawn_shorts(&drop_table, draws);
+    print_head(&core_table);
+    for (size_t k = 0; k < SHORTS; k++)
+        print_short(&core_table, shorts[k].name, made[k]);
+    print_drawn_shorts(&core_table, draws);
 }
+
+/* ---- checks ---- */
 
 static void check(const struct family *f, size_t count)
 {
@@ -1214,11 +1319,14 @@ static void check_longest(const struct family *f, size_t count)
     }
 }
 
+/* Of how many sets it was checked what can be given up, and every core. */
+static unsigned drops_checked, cores_checked;
+
 /* Budgets on both sides of each promise. No floor may be above a weight, whatever the budgets. */
-static void check_budgets(const char *name, const struct text *t, unsigned most)
+static void check_budgets(const char *name, const struct text *t)
 {
     unsigned rules[RULES][3], n = rules_of(t, rules), floor = 0, weight = RULES * MAX_WEIGHT;
-    const unsigned budgets[] = { 1, n, n + 1, 2 * n + 1, most };
+    const unsigned budgets[] = { 1, n, n + 1, 2 * n + 1, n > SHORT ? SOME_BUDGET : SUBSETS };
     struct relaxed r;
     for (size_t k = 0; k < sizeof budgets / sizeof budgets[0]; k++) {
         if (budgets[k] == 0)
@@ -1227,45 +1335,54 @@ static void check_budgets(const char *name, const struct text *t, unsigned most)
         floor = r.floor > floor ? r.floor : floor;
         weight = r.weight < weight ? r.weight : weight;
     }
+    drops_checked++;
     if (floor <= weight)
         return;
     fprintf(stderr, "%s: a floor of %u and a weight of %u\n", name, floor, weight);
     exit(1);
 }
 
+/* Every core of a short list, by the C call on each set of its rules. */
+static void check_cores(const char *name, const struct text *t)
+{
+    char found[SUBSETS];
+    unsigned rules[RULES][3], n = rules_of(t, rules);
+    if (n > SHORT)
+        return;
+    for (unsigned set = 0; set < 1u << n; set++) {
+        char marks[RULES] = "";
+        for (unsigned k = 0; k < n; k++)
+            marks[k] = (char)(set >> k & 1);
+        found[set] = (char)ordered(t, marks);
+    }
+    list_cores(name, t, n, found);
+    cores_checked++;
+}
+
 /* The first sets of a kind, with each range of weights in turn. */
-static void check_drawn(const struct kind *kind, unsigned most)
+static void check_drawn(const struct kind *kind)
 {
     static struct text t, weighed;
     state = 0;
     for (unsigned i = 0; i < CHECKED; i++) {
         draw_set(kind, &t);
         weigh(&t, weights[i % WEIGHTS], &weighed);
-        check_budgets(kind->name, &weighed, most);
+        check_budgets(kind->name, &weighed);
+        if (i < CORES_CHECKED)
+            check_cores(kind->name, &weighed);
     }
 }
 
-/* Made sets that are not hostile; gives how many. */
-static unsigned check_made(const struct family *f, size_t count, unsigned most)
+/* Made sets that are not hostile. */
+static void check_made(const struct family *f, size_t count)
 {
     static struct text t;
-    unsigned checked = 0;
     for (size_t k = 0; k < count; k++)
         if (strncmp(f[k].name, "hostile", 7) != 0) {
             make(&f[k], &t);
-            check_budgets(f[k].name, &t, most);
-            checked++;
+            check_budgets(f[k].name, &t);
+            check_cores(f[k].name, &t);
         }
-    return checked;
-}
-
-/* Gives how many sets are checked. */
-static unsigned check_drops(const struct family *f, size_t count)
-{
-    for (unsigned k = 0; k < KINDS; k++)
-        check_drawn(&clashing[k], SOME_BUDGET);
-    check_drawn(&drawn_short, SUBSETS);
-    return (KINDS + 1) * CHECKED + check_made(shorts, SHORTS, SUBSETS) + check_made(f, count, SOME_BUDGET);
 }
 
 int main(int argc, char **argv)
@@ -1277,7 +1394,14 @@ int main(int argc, char **argv)
         check_longest(families, kinds);
         check_longest(growth, steps);
         printf("bench: %zu task sets, answered alike; how long 8 tasks of each may run is as the C call has it\n", kinds + steps);
-        printf("bench: what can be given up of %u task sets is as the C call has it\n", check_drops(families, kinds));
+        for (unsigned k = 0; k < KINDS; k++)
+            check_drawn(&clashing[k]);
+        check_drawn(&drawn_short);
+        check_made(shorts, SHORTS);
+        check_made(families, kinds);
+        check_made(growth, steps);
+        printf("bench: what can be given up of %u task sets is as the C call has it\n", drops_checked);
+        printf("bench: every core of %u lists of at most 12 rules is as the C call has it\n", cores_checked);
         return 0;
     }
     double unit = print_table("64 tasks", families, kinds, 0);

@@ -1,12 +1,12 @@
 -- That the numbers listed are the cores of a short list, each once and rising, that they decide which rules may be dropped, and that
 -- they are at most 924. Assumes nothing.
-use Rattle.std.specs.Prelude.{◌≡◌, refl, Bool, ◌&&◌, not, List, drop, ◌⊎◌, ℕ, ◌+◌, ◌-◌, ◌^◌, ◌≤◌, ◌<◌, T, length, get_or}
-use Rattle.std.proofs.Common.{sym, ap, subst, ◌∙◌, inl, inr, ⊎_elim, eq-zero-or-pos, arith, length-append, length-drop, get_or-drop}
+use Rattle.std.specs.Prelude.{◌≡◌, refl, Bool, List, drop, ℕ, ◌+◌, ◌-◌, ◌^◌, ◌≤◌, ◌<◌, T, length, get_or}
+use Rattle.std.proofs.Common.{sym, ap, subst, ◌∙◌, ⊎_elim, eq-zero-or-pos, arith, length-append, length-drop, get_or-drop}
 use Rattle.std.proofs.lemmas.List.{get_or-append_right}
 use Rattle.std.proofs.lemmas.Nat.{pow_pos}
 use Rattle.std.proofs.Math.ListN.{get_or-append}
-use Rattle.sets.specs.Choice.{not→refuted, refuted→not, decided, same_test, lt_or_le, and_intro, and_left, and_right}
-use Rattle.sets.specs.Bounded.{Subset, without, without_other, others, any, any_found, any_of, count, count-lt}
+use Rattle.sets.specs.Choice.{not→refuted, refuted→not, decided, same_test, lt_or_le}
+use Rattle.sets.specs.Bounded.{without, without_other, others, subset_or, count, count-lt}
 use Rattle.sets.specs.Collected.{itself, collected_length, collected_at, collected_entry}
 use Rattle.sets.specs.Numbered.{numbered, number_of, number_same, number-lt, numbered_none, number_numbered}
 use Rattle.sets.specs.Antichains.{Part, antichain-le, chains_twelve}
@@ -24,17 +24,6 @@ use Rattle.subsets.proofs.NumberedCores.{number_is, core_set_is, core_passes}
 use Rattle.all_cores.specs.Enumerating.{cores_below, cores_of}
 use Rattle.all_cores.specs.EveryCore.{EveryCore}
 
--- a set below m has a member that is not in the other, or is part of it
-more_or_part : (m : ℕ) (A B : ℕ → Bool) → ((k : ℕ) × (k < m) × T (A k) × (T (B k) → ⊥)) ⊎ Subset m A B
-more_or_part m A B =
-    ⊎_elim
-    (λ t. let (k, h, s) = any_found m missing t in inl (k, h, and_left (A k) (not (B k)) s, not→refuted (B k) (and_right (A k) (not (B k)) s)))
-    (λ out. inr (λ k h a. ⊎_elim (λ b. b) (λ f. absurd (out (any_of m missing k h (and_intro (A k) (not (B k)) a (refuted→not (B k) f))))) (decided (B k))))
-    (decided (any m missing))
-  where
-    missing : ℕ → Bool
-    missing k = A k && not (B k)
-
 -- the cores among all sets
 pub cores_whole : (p : Problem) (n : ℕ) → n ≡ 2 ^ length p.rules → cores_below p n ≡ cores_of p
 unfolding cores_of
@@ -49,6 +38,10 @@ module _ (p : Problem) (lawful : Lawful p) (few : length p.rules ≤ short) wher
   cores_apart : (x y : ℕ) → x < 2 ^ m → y < 2 ^ m → Part x y → T (core_number p x) → T (core_number p y) → x ≡ y
   cores_apart x y h k part s t =
       ⊎_elim
+      (λ back.
+      sym (number_numbered m x h)
+      ∙ number_same m (numbered x) (numbered y) (λ j l. same_test (numbered x j) (numbered y j) (part j) (back j l))
+      ∙ number_numbered m y k)
       (λ more.
       let (j, l, has, hasnt) = more in
       absurd
@@ -56,11 +49,7 @@ module _ (p : Problem) (lawful : Lawful p) (few : length p.rules ≤ short) wher
       (feasible_fewer p (numbered x) (without (numbered y) j)
       (λ i g u. without_other (numbered y) j i (λ e. hasnt (subst (λ (q : ℕ). T (numbered x q)) (sym e) u)) (part i u)) lawful
       ((core_set_is p lawful few y k t).needed j has))))
-      (λ back.
-      sym (number_numbered m x h)
-      ∙ number_same m (numbered x) (numbered y) (λ j l. same_test (numbered x j) (numbered y j) (part j) (back j l))
-      ∙ number_numbered m y k)
-      (more_or_part m (numbered y) (numbered x))
+      (subset_or m (numbered y) (numbered x))
 
   -- so there are at most 924
   cores_most : count (2 ^ m) (core_number p) ≤ 924
@@ -188,9 +177,9 @@ module _ (l : Lists) (sound : Sound l) (few : length l.rules ≤ short) (was : L
   shares_each : (X : ℕ → Bool) → Works l X → Shares X
   shares_each X works i h =
       ⊎_elim
-      (λ more. let (k, g, has, out) = more in (k, g, ⊎_elim (λ x. x) (λ f. absurd (out (refuted→not (X k) f))) (decided (X k)), has))
       (λ part. absurd ((core_stands i h).clash (order_from l sound (numbered (in_buffer i)) (others X) part ((feasible-order l sound (others X)).1 works))))
-      (more_or_part (length l.rules) (numbered (in_buffer i)) (others X))
+      (λ more. let (k, g, has, out) = more in (k, g, ⊎_elim (λ x. x) (λ f. absurd (out (refuted→not (X k) f))) (decided (X k)), has))
+      (subset_or (length l.rules) (numbered (in_buffer i)) (others X))
 
   works_by : (X : ℕ → Bool) → Shares X → Works l X
   works_by X shares = ⊎_elim (λ t. (feasible-order l sound (others X)).0 t) stuck (decided (feasible p (others X)))

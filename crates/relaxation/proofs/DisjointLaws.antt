@@ -7,7 +7,7 @@ use Rattle.std.proofs.Math.Path.{fun_ext}
 use Rattle.std.proofs.Math.ListN.{get_or-eq_default}
 use Rattle.std.proofs.lemmas.List.{length-replicate, get_or-replicate}
 use Rattle.sets.specs.Choice.{pick, T→true, true→T, refuted→false, not→refuted, refuted→not, decided, lt_or_le, and_intro, and_left, and_right}
-use Rattle.sets.specs.Bounded.{every, others, Subset, all, all_at, all_of, below_suc, count, count-some, count_pos}
+use Rattle.sets.specs.Bounded.{every, others, Subset, all, all_at, all_of, below_suc, count, count-some, count_pos, subset_or}
 use Rattle.sets.specs.Sum.{sum, sum-none, sum_more, sum_mono, sum_less, sum_cong, sum_apart}
 use Rattle.sets.specs.Marks.{marked, first, table, length-table, get_or-table}
 use Rattle.taskset.specs.declared.Rule.{Rule}
@@ -377,19 +377,6 @@ given_of : (s : DisjointCores) (K : ℕ → Bool) (k : ℕ) → (number s k ≡ 
 given_of s K k f g =
     and_intro (not (eqb (number s k) 0)) (not (K k)) (refuted→not (eqb (number s k) 0) (λ t. f (eqb→eq (number s k) 0 t)))
     (refuted→not (K k) g)
-
--- a set is part of another, or lacks a rule of it
-module _ (n : ℕ) (A K : ℕ → Bool) where
-  subset_or : (Subset n A K) ⊎ ((k : ℕ) × (k < n) × T (A k) × (T (K k) → ⊥))
-  subset_or = go (decided (all n (λ k. not (A k && not (K k)))))
-    where
-      go : T (all n (λ k. not (A k && not (K k)))) ⊎ (T (all n (λ k. not (A k && not (K k)))) → ⊥)
-          → (Subset n A K) ⊎ ((k : ℕ) × (k < n) × T (A k) × (T (K k) → ⊥))
-      go (inl t) = inl (λ k h. unless (A k) (K k) (all_at n (λ k. not (A k && not (K k))) t k h))
-      go (inr f) =
-          let r = all_missed n (λ k. not (A k && not (K k))) f in
-          let u = unless_not (A r.0) (K r.0) r.2 in
-          inr (r.0, r.1, u.0, u.1)
 
 module _ (p : Problem) (fit : Relaxable p) where
   -- a set that has an order lacks a rule of each core

@@ -1,14 +1,14 @@
 -- Tests over the numbers below a bound: all pass, the greatest that passes, how many pass.
 -- A set of numbers is a test, ℕ → Bool, of which only what lies below the bound counts. Assumes nothing.
 use Rattle.std.specs.Prelude.{Option, None, Some}
-use Rattle.std.specs.Prelude.{◌≡◌, refl, Bool, true, false, not, ◌&&◌, List, ℕ, zero, suc, ◌+◌, ◌≤◌, ◌<◌, T, eqb, ltb, length, get_or}
+use Rattle.std.specs.Prelude.{◌≡◌, refl, Bool, true, false, not, ◌&&◌, ◌⊎◌, List, ℕ, zero, suc, ◌+◌, ◌≤◌, ◌<◌, T, eqb, ltb, length, get_or}
 use Rattle.std.specs.List.{list_any}
-use Rattle.std.proofs.Common.{ap, ◌∙◌, ⊎_elim, not-suc-le-zero, le_of_suc-le-suc, eq-or-lt_of_le, le_refl, le_antisymm, add-le-add, add-lt-add_of_le_of_lt, eq-zero-or-pos, add-one, arith, eqb→eq, ltb→lt, lt→ltb, add-zero, add-suc}
+use Rattle.std.proofs.Common.{ap, ◌∙◌, inl, inr, ⊎_elim, not-suc-le-zero, le_of_suc-le-suc, eq-or-lt_of_le, le_refl, le_antisymm, add-le-add, add-lt-add_of_le_of_lt, eq-zero-or-pos, add-one, arith, eqb→eq, ltb→lt, lt→ltb, add-zero, add-suc}
 use Rattle.std.proofs.lemmas.List.{get_or_default}
 use Rattle.std.proofs.lemmas.List.Folds.{Any-from_list_any, list_any_at}
 use Rattle.std.proofs.Math.Nat.{le_step, add-lt-add_of_lt_of_le}
 use Rattle.std.proofs.Math.Dec.{eqb_refl}
-use Rattle.sets.specs.Choice.{pick, decided, and_intro, and_left, and_right, same_test, T→true, true→T, refuted→false, false→refuted, lt_or_le, and-true, and_swap}
+use Rattle.sets.specs.Choice.{pick, decided, not→refuted, refuted→not, and_intro, and_left, and_right, same_test, T→true, true→T, refuted→false, false→refuted, lt_or_le, and-true, and_swap}
 
 -- every number
 abbrev pub every : ℕ → Bool
@@ -249,6 +249,17 @@ any_found n p t = count-some n p (ltb→lt 0 (count n p) t)
 
 pub any_of : (n : ℕ) (p : ℕ → Bool) (k : ℕ) → k < n → T (p k) → T (any n p)
 any_of n p k h t = lt→ltb 0 (count n p) (count_pos n p k h t)
+
+-- a set is part of another, or has a member that the other lacks
+pub subset_or : (n : ℕ) (A B : ℕ → Bool) → Subset n A B ⊎ ((k : ℕ) × (k < n) × T (A k) × (T (B k) → ⊥))
+subset_or n A B =
+    ⊎_elim
+    (λ t. let (k, h, s) = any_found n lacks t in inr (k, h, and_left (A k) (not (B k)) s, not→refuted (B k) (and_right (A k) (not (B k)) s)))
+    (λ out. inl (λ k h a. ⊎_elim (λ b. b) (λ f. absurd (out (any_of n lacks k h (and_intro (A k) (not (B k)) a (refuted→not (B k) f))))) (decided (B k))))
+    (decided (any n lacks))
+  where
+    lacks : ℕ → Bool
+    lacks k = A k && not (B k)
 
 -- some element of a list passes: some index has one that does
 pub list_any-any : {A : Type 0} (p : A → Bool) (xs : List A) (d : A) → list_any p xs ≡ any (length xs) (λ k. p (get_or xs k d))

@@ -11,6 +11,7 @@ use Rattle.taskset.specs.Model.{Lists, Sound}
 use Rattle.taskset.specs.Adding.{is_made, lists, Made}
 use Rattle.taskset.specs.Outcome.{Outcome, shown_as, buffer_after}
 use Rattle.taskset.specs.Exact.{made_sound, made_passes}
+use Rattle.taskset.specs.ChangingLaws.{on_made_14, on_made_lists}
 use Rattle.assignment.specs.Audsley.{problem}
 use Rattle.subsets.specs.Subsets.{short}
 use Rattle.all_cores.specs.Enumerating.{max_cores, cores_of, enumerating_on, enumerating}
@@ -103,7 +104,7 @@ all_says s was is r e f made =
     (subst (Enumerates (lists s) (shown_as (enumerating_on (lists s) (length was))) was) (sym (f ∙ rw same refl))
     (enumerating_says (lists s) was (made_sound s made)))
 
--- what is outcome_is and left in the buffer, by the outcome
+-- what is answered and left in the buffer, by the outcome
 pub outcome_is : (s : TaskSet) (was : List ℕ) (r : Outcome) → enumerating s (length was) ≡ r
     → (shown_as r ≡ shown_as (enumerating s (length was))) × (buffer_after r was ≡ buffer_after (enumerating s (length was)) was)
 outcome_is s was r e = (ap shown_as (sym e), ap (λ (o : Outcome). buffer_after o was) (sym e))
@@ -111,12 +112,12 @@ outcome_is s was r e = (ap shown_as (sym e), ap (λ (o : Outcome). buffer_after 
 -- the outcome at each return
 pub is_14 : (s : TaskSet) (room : ℕ) → is_made s ≡ false → enumerating s room ≡ Err NotMade
 unfolding enumerating
-is_14 s room e = rw e refl
+is_14 s room e = sym (on_made_14 s (λ l. enumerating_on l room) e)
 
 module _ (s : TaskSet) (room : ℕ) (made : is_made s ≡ true) (l : Lists) (same : l ≡ lists s) where
   on_lists : enumerating s room ≡ enumerating_on l room
   unfolding enumerating
-  on_lists = rw made (ap (λ (k : Lists). enumerating_on k room) (sym same))
+  on_lists = sym (on_made_lists s (λ (k : Lists). enumerating_on k room) made l same)
 
   pub is_13 : eqb (length l.tasks) 0 ≡ true → enumerating s room ≡ Err NoTasks
   is_13 none = on_lists ∙ rw none refl

@@ -7,7 +7,7 @@ use Rattle.sets.specs.Maximum.{maximum}
 use Rattle.sets.specs.Numbered.{numbered}
 use Rattle.taskset.specs.declared.Rule.{Rule}
 use Rattle.taskset.specs.declared.refusals.Refusal.TheVariants.{ShortBuffer, NoTasks, NotMade, ManyRules}
-use Rattle.taskset.specs.Refusals.{section_on, longest_section, row_refusals, index_refusals, weight_refusals, entry_fits}
+use Rattle.taskset.specs.Refusals.{section_on, longest_section, row_refusals, place_refusals, weight_refusals, entry_fits}
 use Rattle.taskset.specs.Adding.{holding, fresh_set, task_fits, rule_fits, is_made}
 use Rattle.response.specs.Blocking.{blocking_of}
 use Rattle.response.specs.Equation.{interference, demand, window_from, window_of, response_of}
@@ -39,7 +39,7 @@ pub record Enumerations : Type 0 where
   pub not_made : enumerating unmade 0 ≡ Err NotMade
 
 pub enumerations : Enumerations
-unfolding enumerating cores_of collected ruled_out numbered is_made task_fits rule_fits entry_fits row_refusals index_refusals weight_refusals section_on longest_section all greatest count maximum sum
+unfolding enumerating cores_of collected ruled_out numbered is_made task_fits rule_fits entry_fits row_refusals place_refusals weight_refusals section_on longest_section all greatest count maximum sum
     feasible fill may_take ready unassigned demand interference blocking_of window_from window_of response_of
 enumerations =
     record {

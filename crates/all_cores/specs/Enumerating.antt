@@ -4,9 +4,9 @@ use Rattle.std.specs.Prelude.{Ok, Err, List, ℕ, ◌^◌, ltb, eqb, length}
 use Rattle.sets.specs.Choice.{pick}
 use Rattle.sets.specs.Collected.{collected, itself}
 use Rattle.taskset.specs.declared.TaskSet.{TaskSet}
-use Rattle.taskset.specs.declared.refusals.Refusal.TheVariants.{ShortBuffer, NoTasks, NotMade, ManyRules}
+use Rattle.taskset.specs.declared.refusals.Refusal.TheVariants.{ShortBuffer, NoTasks, ManyRules}
 use Rattle.taskset.specs.Model.{Lists}
-use Rattle.taskset.specs.Adding.{is_made, lists}
+use Rattle.taskset.specs.Adding.{on_made}
 use Rattle.taskset.specs.Outcome.{Outcome}
 use Rattle.assignment.specs.Audsley.{Problem, problem}
 use Rattle.subsets.specs.Subsets.{short, core_number}
@@ -30,4 +30,4 @@ enumerating_on l room =
 
 -- 14 before them
 unfoldable pub enumerating : TaskSet → ℕ → Outcome
-enumerating s room = pick (is_made s) (enumerating_on (lists s) room) (Err NotMade)
+enumerating s room = on_made s (λ l. enumerating_on l room)

@@ -12,7 +12,7 @@ use Rattle.lines.specs.Decimal.{are_digits, value_after, is_number, digits_in, d
 use Rattle.lines.specs.Line.{line, lines_of}
 use Rattle.lines.specs.Parts.{parts}
 use Rattle.taskset.specs.declared.Task.{Task}
-use Rattle.taskset.specs.Refusals.{section_on, longest_section, row_refusals, index_refusals, weight_refusals, refusal_by}
+use Rattle.taskset.specs.Refusals.{section_on, longest_section, row_refusals, place_refusals, weight_refusals, refusal_by}
 use Rattle.taskset.specs.Model.{Lists, no_lists, hear, heard, Sound}
 use Rattle.taskset.specs.Holding.{none_sound, heard_sound}
 use Rattle.taskset.specs.Exact.{calls_of}
@@ -91,7 +91,7 @@ pub cases : Cases
 unfolding report reading read_from parts asked has_form are_numbers is_number are_digits value_after
     deciding collected flat_map line lines_of listing_with decimal digits_in verdict_on cut_of tried feasible fill may_take ready
     unassigned unassignable greatest all timing_by response_of window_of window_from demand blocking_of interference sum maximum count hear heard
-    refusal_by row_refusals index_refusals weight_refusals section_on longest_section
+    refusal_by row_refusals place_refusals weight_refusals section_on longest_section
 cases =
     record {
       k1 = refl;

@@ -5,7 +5,7 @@ use Rattle.sets.specs.Sum.{sum}
 use Rattle.sets.specs.Maximum.{maximum}
 use Rattle.taskset.specs.declared.TaskSet.{TaskSet}
 use Rattle.taskset.specs.declared.refusals.Refusal.TheVariants.{NotMade}
-use Rattle.taskset.specs.Refusals.{section_on, longest_section, row_refusals, index_refusals, weight_refusals, entry_fits}
+use Rattle.taskset.specs.Refusals.{section_on, longest_section, row_refusals, place_refusals, weight_refusals, entry_fits}
 use Rattle.taskset.specs.Adding.{holding, fresh_set, task_fits, rule_fits, is_made}
 use Rattle.response.specs.Blocking.{blocking_of}
 use Rattle.response.specs.Equation.{interference, demand, window_from, window_of, response_of}
@@ -31,7 +31,7 @@ pub record Trials : Type 0 where
   pub not_made : trying unmade [] ≡ Err NotMade
 
 pub trials : Trials
-unfolding trying is_made task_fits rule_fits entry_fits row_refusals index_refusals weight_refusals section_on longest_section all greatest count
+unfolding trying is_made task_fits rule_fits entry_fits row_refusals place_refusals weight_refusals section_on longest_section all greatest count
     maximum sum feasible fill may_take ready unassigned demand interference blocking_of window_from window_of response_of
 trials =
     record {

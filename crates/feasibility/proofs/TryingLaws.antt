@@ -1,14 +1,14 @@
 -- What a trial answers, and what that says. Assumes nothing.
-use Rattle.std.specs.Prelude.{Result, Ok, Err, ◌≡◌, refl, Bool, true, false, List, ◌⊎◌, ◌↔◌, ℕ, ◌<◌, nat_eq, length}
+use Rattle.std.specs.Prelude.{Result, Ok, ◌≡◌, refl, Bool, true, false, List, ◌⊎◌, ◌↔◌, ℕ, ◌<◌, nat_eq, length}
 use Rattle.std.proofs.Common.{sym, subst, ap, ◌∙◌, inl, inr, eqb→eq, eq-eqb}
 use Rattle.sets.specs.Choice.{true→T, T→true, same_test}
 use Rattle.sets.specs.Marks.{marked}
 use Rattle.taskset.specs.declared.TaskSet.{TaskSet}
 use Rattle.taskset.specs.declared.refusals.Refusal.{Refusal}
-use Rattle.taskset.specs.declared.refusals.Refusal.TheVariants.{NotMade}
 use Rattle.taskset.specs.Model.{Lists, Sound}
 use Rattle.taskset.specs.Adding.{is_made, lists, Made}
 use Rattle.taskset.specs.Exact.{made_sound, made_passes}
+use Rattle.taskset.specs.ChangingLaws.{on_made_lists}
 use Rattle.assignment.specs.Orders.{SomeOrder}
 use Rattle.assignment.specs.Audsley.{Problem, feasible, fill, problem}
 use Rattle.assignment.specs.Decision.{valid_fewer}
@@ -26,15 +26,11 @@ none_free l sound active free decides =
 
 -- ---- the answer
 
-pub trying_14 : (s : TaskSet) (active : List Bool) → is_made s ≡ false → Err NotMade ≡ trying s active
-unfolding trying
-trying_14 s active e = rw e
-
 -- of a trial of its lists
 pub trying_made : (s : TaskSet) (active : List Bool) → is_made s ≡ true → (l : Lists) → l ≡ lists s → (found : Bool)
     → found ≡ feasible (problem l) (marked active) → Ok found ≡ trying s active
 unfolding trying
-trying_made s active made l same found e = rw made (ap Ok e ∙ ap (λ (k : Lists). Ok (feasible (problem k) (marked active))) same)
+trying_made s active made l same found e = ap Ok e ∙ on_made_lists s (λ (k : Lists). Ok (feasible (problem k) (marked active))) made l same
 
 -- ---- what that says
 

@@ -9,7 +9,7 @@ use Rattle.taskset.specs.declared.Rule.{Rule}
 use Rattle.taskset.specs.declared.TaskSet.{TaskSet}
 use Rattle.taskset.specs.declared.refusals.Refusal.{Refusal}
 use Rattle.taskset.specs.declared.refusals.Refusal.TheVariants.{NoTasks, NotMade, Budget}
-use Rattle.taskset.specs.Refusals.{max_rules, section_on, longest_section, row_refusals, index_refusals, weight_refusals, entry_fits}
+use Rattle.taskset.specs.Refusals.{max_rules, section_on, longest_section, row_refusals, place_refusals, weight_refusals, entry_fits}
 use Rattle.taskset.specs.Adding.{holding, fresh_set, task_fits, rule_fits, is_made}
 use Rattle.taskset.specs.Numbers.{rule_of}
 use Rattle.response.specs.Blocking.{blocking_of}
@@ -80,7 +80,7 @@ pub record Relaxations : Type 0 where
   pub not_made : relaxing unmade 0 ≡ Err NotMade
 
 pub relaxations : Relaxations
-unfolding relaxing relaxed_within tabled_relaxation explored_relaxation explored looking looked solved started learning branching counted_cut restored put_back turns_of heaviest listed_in included remembered foremost taken added child branched answers cheapest cores_listed listed_with least_weight numbered ruled_out tried is_made task_fits rule_fits entry_fits row_refusals index_refusals weight_refusals section_on longest_section all greatest count maximum sum
+unfolding relaxing relaxed_within tabled_relaxation explored_relaxation explored looking looked solved started learning branching counted_cut restored put_back turns_of heaviest listed_in included remembered foremost taken added child branched answers cheapest cores_listed listed_with least_weight numbered ruled_out tried is_made task_fits rule_fits entry_fits row_refusals place_refusals weight_refusals section_on longest_section all greatest count maximum sum
     feasible fill may_take ready unassigned demand interference blocking_of window_from window_of response_of
 relaxations =
     record {

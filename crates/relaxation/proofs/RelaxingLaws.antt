@@ -13,11 +13,12 @@ use Rattle.sets.specs.Marks.{first, marked, table, length-table, get_or-table}
 use Rattle.sets.specs.Numbered.{numbered}
 use Rattle.taskset.specs.declared.TaskSet.{TaskSet}
 use Rattle.taskset.specs.declared.refusals.Refusal.{Refusal}
-use Rattle.taskset.specs.declared.refusals.Refusal.TheVariants.{NoTasks, NotMade, Budget}
+use Rattle.taskset.specs.declared.refusals.Refusal.TheVariants.{NoTasks, Budget}
 use Rattle.taskset.specs.Refusals.{max_rules, outside}
 use Rattle.taskset.specs.Model.{Lists, Sound}
 use Rattle.taskset.specs.Adding.{is_made, lists, Made}
 use Rattle.taskset.specs.Exact.{made_sound, made_passes}
+use Rattle.taskset.specs.ChangingLaws.{on_made_lists}
 use Rattle.assignment.specs.Orders.{no_rule, Works}
 use Rattle.assignment.specs.Audsley.{Problem, feasible, problem}
 use Rattle.assignment.specs.Cores.{IsCore, rules_in}
@@ -438,14 +439,10 @@ is_le-leb x y = grind arith
 outside_not : (budget : ℕ) → outside 1 max_budget budget ≡ not (in_budget budget)
 outside_not budget = rw (is_le-leb 1 budget, is_le-leb budget max_budget) (grind arith)
 
-pub relax_14 : (s : TaskSet) (budget : ℕ) → is_made s ≡ false → Err NotMade ≡ relaxing s budget
-unfolding relaxing
-relax_14 s budget e = rw e refl
-
 module _ (s : TaskSet) (budget : ℕ) (made : is_made s ≡ true) (l : Lists) (same : l ≡ lists s) where
   made_relaxing : relaxing_on l budget ≡ relaxing s budget
   unfolding relaxing
-  made_relaxing = rw made (ap (λ (k : Lists). relaxing_on k budget) same)
+  made_relaxing = on_made_lists s (λ (k : Lists). relaxing_on k budget) made l same
 
   pub relax_13 : eqb (length l.tasks) 0 ≡ true → Err NoTasks ≡ relaxing s budget
   relax_13 none = let first : Err NoTasks ≡ relaxing_on l budget = rw none refl in first ∙ made_relaxing

@@ -6,10 +6,10 @@ use Rattle.sets.specs.Marks.{first, marked}
 use Rattle.sets.specs.Numbered.{numbered}
 use Rattle.taskset.specs.declared.TaskSet.{TaskSet}
 use Rattle.taskset.specs.declared.refusals.Refusal.{Refusal}
-use Rattle.taskset.specs.declared.refusals.Refusal.TheVariants.{NoTasks, NotMade, Budget}
+use Rattle.taskset.specs.declared.refusals.Refusal.TheVariants.{NoTasks, Budget}
 use Rattle.taskset.specs.Refusals.{outside}
 use Rattle.taskset.specs.Model.{Lists}
-use Rattle.taskset.specs.Adding.{is_made, lists}
+use Rattle.taskset.specs.Adding.{on_made}
 use Rattle.assignment.specs.Orders.{no_rule}
 use Rattle.assignment.specs.Audsley.{Problem, feasible, problem}
 use Rattle.subsets.specs.Subsets.{short, subsets}
@@ -72,4 +72,4 @@ relaxing_on l budget =
 
 -- 14 before them
 unfoldable pub relaxing : TaskSet → ℕ → Result Relaxed Refusal
-relaxing s budget = pick (is_made s) (relaxing_on (lists s) budget) (Err NotMade)
+relaxing s budget = on_made s (λ l. relaxing_on l budget)

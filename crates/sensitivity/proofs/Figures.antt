@@ -5,7 +5,7 @@ use Rattle.sets.specs.Sum.{sum}
 use Rattle.sets.specs.Maximum.{maximum}
 use Rattle.taskset.specs.declared.TaskSet.{TaskSet}
 use Rattle.taskset.specs.declared.refusals.Refusal.TheVariants.{NoSuchTask, NotMade}
-use Rattle.taskset.specs.Refusals.{section_on, longest_section, row_refusals, index_refusals, weight_refusals, entry_fits}
+use Rattle.taskset.specs.Refusals.{section_on, longest_section, row_refusals, place_refusals, weight_refusals, entry_fits}
 use Rattle.taskset.specs.Adding.{holding, fresh_set, task_fits, rule_fits, is_made}
 use Rattle.response.specs.Blocking.{blocking_of}
 use Rattle.response.specs.Equation.{interference, demand, window_from, window_of, response_of}
@@ -53,7 +53,7 @@ pub record Figures : Type 0 where
   pub not_made : longest_of unmade 65 ≡ Err NotMade
 
 pub figures : Figures
-unfolding longest_of longest is_made task_fits rule_fits entry_fits row_refusals index_refusals weight_refusals section_on longest_section all
+unfolding longest_of longest is_made task_fits rule_fits entry_fits row_refusals place_refusals weight_refusals section_on longest_section all
     greatest count maximum sum feasible fill may_take ready unassigned demand interference blocking_of window_from window_of response_of
 figures =
     record {

@@ -1,5 +1,5 @@
 -- What the answer says. Assumes nothing.
-use Rattle.std.specs.Prelude.{Result, Ok, Err, Option, Some, None, ◌≡◌, refl, Bool, true, false, ◌⊎◌, ◌↔◌, ℕ, ◌+◌, ◌≤◌, ◌<◌, T, leb, length}
+use Rattle.std.specs.Prelude.{Result, Ok, Err, Option, Some, None, ◌≡◌, refl, Bool, true, ◌⊎◌, ◌↔◌, ℕ, ◌+◌, ◌≤◌, ◌<◌, T, leb, length}
 use Rattle.std.proofs.Common.{sym, ap, subst, ◌∙◌, ⊎_elim, le_refl, le_antisymm, inl, inr, arith, le→leb, leb→le}
 use borrow.Author.Tests.{le-leb, lt-leb}
 use Rattle.sets.specs.Choice.{and_intro, and_left, and_right, lt_or_le}
@@ -7,11 +7,12 @@ use Rattle.sets.specs.Bounded.{IsGreatest, Greatest, found, nothing, greatest_is
 use Rattle.taskset.specs.declared.Task.{Task}
 use Rattle.taskset.specs.declared.TaskSet.{TaskSet}
 use Rattle.taskset.specs.declared.refusals.Refusal.{Refusal}
-use Rattle.taskset.specs.declared.refusals.Refusal.TheVariants.{NoSuchTask, NotMade}
+use Rattle.taskset.specs.declared.refusals.Refusal.TheVariants.{NoSuchTask}
 use Rattle.taskset.specs.Refusals.{longest_section, section_on}
 use Rattle.taskset.specs.Model.{Lists, Sound}
 use Rattle.taskset.specs.Adding.{is_made, lists, Made}
 use Rattle.taskset.specs.Exact.{made_sound, made_passes}
+use Rattle.taskset.specs.ChangingLaws.{on_made_lists}
 use Rattle.assignment.specs.Orders.{every_rule, SomeOrder}
 use Rattle.sensitivity.specs.Longest.{with_execution, least_execution, least_at, period_at, accepts, passing_from, longest, longest_on, longest_of}
 use Rattle.sensitivity.specs.Sensitivity.{Accepted, IsLongest, Sensitivity}
@@ -161,14 +162,10 @@ answer_tells l sound i =
 
 -- ---- of a set
 
-pub answer_14 : (s : TaskSet) (i : ℕ) → is_made s ≡ false → Err NotMade ≡ longest_of s i
-unfolding longest_of
-answer_14 s i e = rw e
-
 module _ (s : TaskSet) (i : ℕ) (made : is_made s ≡ true) (l : Lists) (same : l ≡ lists s) where
   made_answer : longest_on l i ≡ longest_of s i
   unfolding longest_of
-  made_answer = rw made (ap (λ (k : Lists). longest_on k i) same)
+  made_answer = on_made_lists s (λ (k : Lists). longest_on k i) made l same
 
   pub answer_11 : length l.tasks ≤ i → Err NoSuchTask ≡ longest_of s i
   answer_11 h = let first : Err NoSuchTask ≡ longest_on l i = rw (le-leb (length l.tasks) i h) in first ∙ made_answer

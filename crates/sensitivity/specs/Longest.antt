@@ -6,10 +6,10 @@ use Rattle.sets.specs.Marks.{first}
 use Rattle.taskset.specs.declared.Task.{Task}
 use Rattle.taskset.specs.declared.TaskSet.{TaskSet}
 use Rattle.taskset.specs.declared.refusals.Refusal.{Refusal}
-use Rattle.taskset.specs.declared.refusals.Refusal.TheVariants.{NoSuchTask, NotMade}
+use Rattle.taskset.specs.declared.refusals.Refusal.TheVariants.{NoSuchTask}
 use Rattle.taskset.specs.Refusals.{longest_section}
 use Rattle.taskset.specs.Model.{Lists, task_at}
-use Rattle.taskset.specs.Adding.{is_made, lists}
+use Rattle.taskset.specs.Adding.{on_made}
 use Rattle.assignment.specs.Audsley.{feasible, problem}
 
 -- a row with this execution time
@@ -49,4 +49,4 @@ longest_on l i = pick (leb (length l.tasks) i) (Err NoSuchTask) (Ok (longest l i
 
 -- 14 before them
 unfoldable pub longest_of : TaskSet → ℕ → Result (Option ℕ) Refusal
-longest_of s i = pick (is_made s) (longest_on (lists s) i) (Err NotMade)
+longest_of s i = on_made s (λ l. longest_on l i)

@@ -23,6 +23,11 @@ pub pick-le : (b : Bool) {x y n : ℕ} → x ≤ n → y ≤ n → pick b x y �
 pick-le true h k = h
 pick-le false h k = k
 
+-- a choice by a test has what each side has
+pub pick_has : {A : Type 0} (P : A → Type 0) (b : Bool) {x y : A} → (T b → P x) → ((T b → ⊥) → P y) → P (pick b x y)
+pick_has P true passes fails = passes tt
+pick_has P false passes fails = fails (λ t. t)
+
 -- a choice by whether there is a value
 abbrev pub option : {A B : Type 0} → B → (A → B) → Option A → B
 option b f None = b

@@ -1,7 +1,9 @@
 -- A list as the front of an array of n entries, the rest of which is d. Assumes nothing.
 use Rattle.std.specs.Prelude.{◌≡◌, refl, List, [], ◌∷◌, ◌++◌, map, ℕ, zero, suc, ◌+◌, ◌-◌, ◌≤◌, ◌<◌, length, get_or, set, replicate, take}
-use Rattle.std.proofs.Common.{sym, ◌∙◌, ⊎_elim, not-suc-le-zero, le_of_suc-le-suc, add-one, arith, length-append, get_or-append-add}
-use Rattle.std.proofs.lemmas.List.{length-replicate, get_or-replicate}
+use Rattle.std.proofs.Common.{sym, ap, ◌∙◌, ⊎_elim, not-suc-le-zero, le_of_suc-le-suc, add-one, arith, append_assoc, length-append, length-set, get_or-append-add}
+use Rattle.std.specs.List.{remove}
+use Rattle.std.proofs.lemmas.List.{length-replicate, get_or-replicate, set-append_left, replicate_more, take-set, drop-set-lt}
+use Rattle.std.proofs.lemmas.List.Edits.{length-remove, remove-append_left}
 use Rattle.std.proofs.Math.ListN.{get_or-append, get_or-eq_default}
 use Rattle.std.proofs.Math.Seq.{take-append_seam, set-append_seam, append_snoc}
 use Rattle.sets.specs.Choice.{lt_or_le}
@@ -42,6 +44,25 @@ module _ {A : Type 0} where
   -- and the list is its front
   pub take-pad : (n : ℕ) (d : A) (xs : List A) → take (length xs) (pad n d xs) ≡ xs
   take-pad n d xs = take-append_seam xs (replicate (n - length xs) d)
+
+-- an entry written over, and one taken out with a blank one behind
+module _ {A : Type 0} (n : ℕ) (d : A) (xs : List A) (i : ℕ) (h : i < length xs) where
+  pub overwritten_pad : (x : A) → set (pad n d xs) i x ≡ pad n d (set xs i x)
+  overwritten_pad x =
+      set-append_left xs (replicate (n - length xs) d) i x h
+      ∙ ap (λ (m : ℕ). set xs i x ++ replicate (n - m) d) (sym (length-set xs i x))
+
+  pub remove_pad : length xs ≤ n → remove (pad n d xs) i ++ d ∷ [] ≡ pad n d (remove xs i)
+  remove_pad few =
+      let less = length-remove xs i h in
+      let rest : (n - length xs) + 1 ≡ n - length (remove xs i) = omega (arith, less, few) in
+      rw (remove-append_left xs (replicate (n - length xs) d) i h)
+      (append_assoc (remove xs i) (replicate (n - length xs) d) (d ∷ [])
+      ∙ ap (λ (r : List A). remove xs i ++ r) (replicate_more (n - length xs) d ∙ ap (λ (m : ℕ). replicate m d) rest))
+
+-- what is written at a place is taken out with it
+pub overwritten_removed : {A : Type 0} (xs : List A) (i : ℕ) (x : A) → remove (set xs i x) i ≡ remove xs i
+overwritten_removed xs i x = rw (take-set xs i x, drop-set-lt (suc i) xs i x (omega arith)) refl
 
 -- an entry of a list that a function was applied to
 pub map_at : {A B : Type 0} (f : A → B) (xs : List A) (k : ℕ) (d : A) (e : B) → k < length xs

@@ -1,8 +1,8 @@
 -- Sums over a marked set of the numbers below a bound. Assumes nothing.
 use Rattle.std.specs.Prelude.{◌≡◌, refl, Bool, true, false, ℕ, zero, suc, ◌+◌, ◌*◌, ◌≤◌, ◌<◌, T, eqb}
-use Rattle.std.proofs.Common.{ap, subst, eqb→eq, ⊎_elim, le_refl, le_antisymm, add-le-add, mul-zero, zero-mul, suc-mul, mul-add, not-suc-le-zero, le_of_suc-le-suc, eq-or-lt_of_le, add-one, arith}
+use Rattle.std.proofs.Common.{sym, ap, subst, eqb→eq, ⊎_elim, le_refl, le_antisymm, add-le-add, mul-zero, zero-mul, suc-mul, mul-add, not-suc-le-zero, le_of_suc-le-suc, eq-or-lt_of_le, add-one, arith}
 use Rattle.std.proofs.Math.Nat.{le_step}
-use Rattle.sets.specs.Choice.{pick, T→true, refuted→false}
+use Rattle.sets.specs.Choice.{pick, T→true, true→T, refuted→false, false→refuted, same_test}
 use Rattle.sets.specs.Bounded.{Subset, without, without_still, without_other}
 
 -- ---- the sum of f over the numbers below n that are in A
@@ -134,3 +134,40 @@ sum_apart (suc n) A B C f v w apart =
     let last = le_refl (suc n) in
     let here = term_apart (A n) (B n) (C n) (f n) (v n last) (w n last) (apart n last) in
     omega (arith, below, here)
+
+-- ---- into another sum, and a member apart
+
+-- a sum whose members have places of their own in another, with terms no smaller, is no greater
+pub sum_into : (n m : ℕ) (B A : ℕ → Bool) (f g : ℕ → ℕ) (at : ℕ → ℕ)
+    → ((j : ℕ) → j < n → T (B j) → (at j < m) × T (A (at j)) × (f j ≤ g (at j)))
+    → ((i j : ℕ) → i < n → j < n → T (B i) → T (B j) → at i ≡ at j → i ≡ j) → sum n B f ≤ sum m A g
+unfolding sum
+sum_into zero m B A f g at into once = omega arith
+sum_into (suc n) m B A f g at into once =
+    go (B n) refl (λ C into'. sum_into n m B C f g at into' (λ i j h l. once i j (le_step h) (le_step l)))
+  where
+    Into : (ℕ → Bool) → Type 0
+    Into C = (j : ℕ) → j < n → T (B j) → (at j < m) × T (C (at j)) × (f j ≤ g (at j))
+
+    go : (b : Bool) → B n ≡ b → ((C : ℕ → Bool) → Into C → sum n B f ≤ sum m C g) → sum n B f + pick b (f n) 0 ≤ sum m A g
+    go true e below =
+        let t = true→T (B n) e in
+        let last = into n (le_refl (suc n)) t in
+        let others = below (without A (at n))
+        (λ j l s.
+        let there = into j (le_step l) s in
+        (there.0, without_other A (at n) (at j) (λ q. omega (arith, l, once n j (le_refl (suc n)) (le_step l) t s q)) there.1, there.2)) in
+        omega (arith, others, last.2, sum_without m A g (at n) last.0 last.1)
+    go false e below = let rest = below A (λ j l. into j (le_step l)) in omega (arith, rest)
+
+-- without a number, and its term where it was a member
+pub sum_with : (n : ℕ) (A : ℕ → Bool) (f : ℕ → ℕ) (k : ℕ) → k < n → sum n A f ≡ sum n (without A k) f + pick (A k) (f k) 0
+sum_with n A f k h = go (A k) refl
+  where
+    go : (b : Bool) → A k ≡ b → sum n A f ≡ sum n (without A k) f + pick b (f k) 0
+    go true e = sym (sum_without n A f k h (true→T (A k) e))
+    go false e =
+        let same : (j : ℕ) → j < n → A j ≡ without A k j =
+        λ j l. same_test (A j) (without A k j) (λ t. without_other A k j (λ q. false→refuted (A k) e (rw q t)) t)
+        (λ t. (without_still A k j t).0) in
+        omega (arith, sum_same n A (without A k) f f same (λ j l. refl))

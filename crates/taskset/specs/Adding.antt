@@ -12,7 +12,7 @@ use Rattle.taskset.specs.declared.Rule.{Rule}
 use Rattle.taskset.specs.declared.TaskSet.{TaskSet}
 use Rattle.taskset.specs.declared.Call.{Call}
 use Rattle.taskset.specs.declared.Call.TheVariants.{AddTask, AddRule}
-use Rattle.taskset.specs.declared.Added.{Added}
+use Rattle.taskset.specs.declared.Changed.{Changed}
 use Rattle.taskset.specs.Refusals.{max_tasks, max_rules, resources, entry_fits}
 use Rattle.taskset.specs.Model.{Lists, no_lists, refusal_of, extended, blank_task, blank_rule}
 
@@ -62,15 +62,23 @@ is_made s =
     && all max_tasks (entry (task_fits s.ntasks s.nrules) blank_task s.ntasks s.tasks)
     && all max_rules (entry (rule_fits s.ntasks s.nrules) blank_rule s.nrules s.rules)
 
--- ---- a call, and lists of calls
+-- 14 comes first: the lists are looked at only of a set that passes
+abbrev pub on_made : {A : Type 0} → TaskSet → (Lists → Result A Refusal) → Result A Refusal
+on_made s f = pick (is_made s) (f (lists s)) (Err NotMade)
 
--- refused: why, and the set as it was; taken: the set that holds the longer lists
-abbrev pub answering : TaskSet → Result (Unit {0}) Refusal → TaskSet → Added
+-- ---- a call that changes a set, and lists of adding calls
+
+-- refused: why, and the set as it was; taken: another set
+abbrev pub answering : TaskSet → Result (Unit {0}) Refusal → TaskSet → Changed
 answering s r new = record { answer = r; set = pick (is_ok r) new s }
 
--- 14 first, then the refusal of the call
-unfoldable pub add : TaskSet → Call → Added
-add s c = answering s (pick (is_made s) (refusal_of (lists s) c) (Err NotMade)) (holding (extended (lists s) c))
+-- a call that is refused, or takes the set's lists to others: 14, then its own refusals; taken: the set that holds the new lists
+abbrev pub changing : TaskSet → (Lists → Result (Unit {0}) Refusal) → (Lists → Lists) → Changed
+changing s refusal new = answering s (on_made s refusal) (holding (new (lists s)))
+
+-- adding: the longer lists
+unfoldable pub add : TaskSet → Call → Changed
+add s c = changing s (λ l. refusal_of l c) (λ l. extended l c)
 
 -- each call is handed the set that the one before handed back, after a refusal too
 unfoldable pub run : TaskSet → List Call → TaskSet

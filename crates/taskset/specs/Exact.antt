@@ -65,13 +65,14 @@ heard_all l s =
     hear_tasks l.tasks no_lists (map AddRule l.rules) (omega (arith, s.tasks.few)) s.tasks.each
     ∙ hear_rules l.rules (record { tasks = l.tasks; rules = [] }) (omega (arith, s.few_rules)) (λ k h. (s.indices k h, s.weights k h))
 
--- ---- so what passes is made by calls
+-- ---- so the set that holds such lists is made by calls, and what passes is
+
+pub sound_holding : (l : Lists) → Sound l → Made (holding l)
+unfolding Made
+sound_holding l sound = (calls_of l, run-holding no_lists none_sound (calls_of l) ∙ ap holding (heard_all l sound))
 
 pub passes_made : (s : TaskSet) → Sized s → is_made s ≡ true → Made s
-unfolding Made
-passes_made s size e =
-    let p = passed s size e in
-    (calls_of (lists s), run-holding no_lists none_sound (calls_of (lists s)) ∙ ap holding (heard_all (lists s) p.sound) ∙ p.holds)
+passes_made s size e = let p = passed s size e in subst Made p.holds (sound_holding (lists s) p.sound)
 
 -- an answer that is the check's says whether calls make the set
 pub passes_exact : (s : TaskSet) → Sized s → (r : Bool) → r ≡ is_made s → (r ≡ true) ↔ Made s

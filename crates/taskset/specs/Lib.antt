@@ -10,4 +10,5 @@ pub mod Holding
 pub mod RowLaws
 pub mod Passing
 pub mod Exact
+pub mod ChangingLaws
 pub mod AddingLaws

@@ -1,6 +1,6 @@
 -- The reference model, which is document 01's sceptic: his list of tasks and his list of rules, from the calls' arguments alone.
 -- Assumes nothing.
-use Rattle.std.specs.Prelude.{List, [], ◌∷◌, ◌++◌, ℕ, ◌≤◌, ◌<◌, length, get_or, replicate, Result, is_ok}
+use Rattle.std.specs.Prelude.{◌≡◌, List, [], ◌∷◌, ◌++◌, ℕ, ◌≤◌, ◌<◌, length, get_or, replicate, Result, is_ok}
 use Rattle.sets.specs.Choice.{pick}
 use Rattle.taskset.specs.declared.refusals.Refusal.{Refusal}
 use Rattle.taskset.specs.declared.Task.{Task}
@@ -51,6 +51,10 @@ task_at tasks i = get_or tasks i no_task
 
 abbrev pub rule_at : List Rule → ℕ → Rule
 rule_at rules k = get_or rules k blank_rule
+
+-- each row has a section for each resource
+abbrev pub Sectioned : List Task → Type 0
+Sectioned tasks = (i : ℕ) → i < length tasks → length (task_at tasks i).sections ≡ resources
 
 -- few enough tasks, each within its ranges
 pub record SoundTasks (tasks : List Task) : Type 0 where

@@ -1,7 +1,7 @@
 -- The documents' numbers of the refusals. Assumes nothing.
 use Rattle.std.specs.Prelude.{ℕ}
 use Rattle.taskset.specs.declared.refusals.Refusal.{Refusal}
-use Rattle.taskset.specs.declared.refusals.Refusal.TheVariants.{Period, Execution, Deadline, Jitter, Section, SameTask, BadLine, LongText, ShortBuffer, FullTasks, NoSuchTask, FullRules, NoTasks, NotMade, Weight, Budget, ManyRules}
+use Rattle.taskset.specs.declared.refusals.Refusal.TheVariants.{Period, Execution, Deadline, Jitter, Section, SameTask, BadLine, LongText, ShortBuffer, FullTasks, NoSuchTask, FullRules, NoTasks, NotMade, Weight, Budget, DifferentPeriods, BothWays, ManyRules}
 
 abbrev pub number : Refusal → ℕ
 number Period = 1
@@ -20,4 +20,6 @@ number NoTasks = 13
 number NotMade = 14
 number Weight = 15
 number Budget = 16
+number DifferentPeriods = 17
+number BothWays = 18
 number ManyRules = 24

@@ -21,20 +21,27 @@ Sized s = (length s.tasks ≡ max_tasks) × (length s.rules ≡ max_rules)
 
 -- ---- entries
 
+-- an entry that is all zeros
+pub zero_task : (t : Task) → t.period ≡ 0 → t.execution ≡ 0 → t.deadline ≡ 0 → t.jitter ≡ 0 → t.sections ≡ replicate resources 0
+    → t ≡ blank_task
+zero_task t p c d j s = λ i. record { period = p i; execution = c i; deadline = d i; jitter = j i; sections = s i }
+
+pub zero_rule : (r : Rule) → r.higher.0 ≡ 0 → r.lower.0 ≡ 0 → r.weight ≡ 0 → r ≡ blank_rule
+zero_rule r u l w = λ i. record { higher = record { 0 = u i }; lower = record { 0 = l i }; weight = w i }
+
 blank_task_lem : (n m : ℕ) (t : Task) → T (task_fits n m false t) → t ≡ blank_task
 unfolding task_fits
 blank_task_lem n m t h =
     let (p, c, d, j, same) :
     (t.period ≡ 0) × (t.execution ≡ 0) × (t.deadline ≡ 0) × (t.jitter ≡ 0) × T (pointwise nat_eq t.sections (replicate resources 0)) =
     search (and_left, and_right, eqb→eq) in
-    let s = same_text t.sections (replicate resources 0) (sym (T→true _ same)) in
-    λ i. record { period = p i; execution = c i; deadline = d i; jitter = j i; sections = s i }
+    zero_task t p c d j (same_text t.sections (replicate resources 0) (sym (T→true _ same)))
 
 blank_rule_lem : (n m : ℕ) (r : Rule) → T (rule_fits n m false r) → r ≡ blank_rule
 unfolding rule_fits
 blank_rule_lem n m r h =
     let (u, l, w) : (r.higher.0 ≡ 0) × (r.lower.0 ≡ 0) × (r.weight ≡ 0) = search (and_left, and_right, eqb→eq) in
-    λ i. record { higher = record { 0 = u i }; lower = record { 0 = l i }; weight = w i }
+    zero_rule r u l w
 
 used_task : (n m : ℕ) (t : Task) → T (task_fits n m true t) → InRanges t
 unfolding task_fits

@@ -10,7 +10,7 @@ use Rattle.sets.specs.Bounded.{every, all_at}
 use Rattle.sets.specs.Maximum.{maximum_at, maximum-le}
 use Rattle.sets.specs.Items.{maximum-items}
 use Rattle.taskset.specs.declared.refusals.Refusal.{Refusal}
-use Rattle.taskset.specs.declared.refusals.Refusal.TheVariants.{Period, Execution, Deadline, Jitter, Section, SameTask, BadLine, LongText, ShortBuffer, FullTasks, NoSuchTask, FullRules, NoTasks, NotMade, Weight, Budget, ManyRules}
+use Rattle.taskset.specs.declared.refusals.Refusal.TheVariants.{Period, Execution, Deadline, Jitter, Section, SameTask, BadLine, LongText, ShortBuffer, FullTasks, NoSuchTask, FullRules, NoTasks, NotMade, Weight, Budget, DifferentPeriods, BothWays, ManyRules}
 use Rattle.taskset.specs.declared.Task.{Task}
 use Rattle.taskset.specs.declared.Rule.{Rule}
 use Rattle.taskset.specs.declared.Call.{Call}
@@ -18,7 +18,7 @@ use Rattle.taskset.specs.declared.Call.TheVariants.{AddTask, AddRule}
 use Rattle.taskset.specs.Numbering.{number}
 use Rattle.taskset.specs.Refusals.{max_tasks, max_rules, max_period, max_weight, InRanges, Between, Weighed, Acceptable, Room}
 use Rattle.taskset.specs.Refusals.{resources, section_on, longest_section, uses_none}
-use Rattle.taskset.specs.Refusals.{Condition, full_by, first_of, outside, row_refusals, index_refusals, weight_refusals, refusal_by, entry_fits}
+use Rattle.taskset.specs.Refusals.{Condition, full_by, first_of, outside, row_refusals, place_refusals, index_refusals, weight_refusals, refusal_by, entry_fits}
 
 -- a refusal's number is a small one
 pub number_small : (r : Refusal) → number r ≤ 24
@@ -38,6 +38,8 @@ number_small NoTasks = omega arith
 number_small NotMade = omega arith
 number_small Weight = omega arith
 number_small Budget = omega arith
+number_small DifferentPeriods = omega arith
+number_small BothWays = omega arith
 number_small ManyRules = omega arith
 
 -- a test says that a call is taken
@@ -110,18 +112,21 @@ row_exactly t = (
       ),
 )
 
-index_exactly : (n : ℕ) (r : Rule) → (first_of (index_refusals n r) ≡ Ok tt) ↔ Between n r
-unfolding index_refusals
-index_exactly n r = (
+pub places_exactly : (n i j : ℕ) → (first_of (place_refusals n i j) ≡ Ok tt) ↔ ((i ≡ j → ⊥) × (i < n) × (j < n))
+unfolding place_refusals
+places_exactly n i j = (
   λ e.
-      let (same, (missing, _)) = none_applies (index_refusals n r) e in
-      record {
-        apart = eqb-false _ _ same;
-        higher = leb-false n _ (or_false_left (leb n r.higher.0) (leb n r.lower.0) missing);
-        lower = leb-false n _ (or_false_right (leb n r.higher.0) (leb n r.lower.0) missing);
-      },
-  λ b. rw (ne_eqb _ _ b.apart, lt-leb n _ b.higher, lt-leb n _ b.lower),
+      let (same, (missing, _)) = none_applies (place_refusals n i j) e in
+      (eqb-false i j same, leb-false n i (or_false_left (leb n i) (leb n j) missing), leb-false n j (or_false_right (leb n i) (leb n j) missing)),
+  λ b. rw (ne_eqb i j b.0, lt-leb n i b.1, lt-leb n j b.2),
 )
+
+index_exactly : (n : ℕ) (r : Rule) → (first_of (index_refusals n r) ≡ Ok tt) ↔ Between n r
+index_exactly n r =
+    let places = places_exactly n r.higher.0 r.lower.0 in (
+      λ e. let b = places.0 e in record { apart = b.0; higher = b.1; lower = b.2 },
+      λ b. places.1 (b.apart, b.higher, b.lower),
+    )
 
 weight_exactly : (r : Rule) → (first_of (weight_refusals r) ≡ Ok tt) ↔ Weighed r
 unfolding weight_refusals
@@ -132,7 +137,7 @@ weight_exactly r = (
 
 -- ---- one list of refusals after another
 
-first-append : (rs qs : List Condition) → first_of (rs ++ qs) ≡ result_and (first_of rs) (first_of qs)
+pub first-append : (rs qs : List Condition) → first_of (rs ++ qs) ≡ result_and (first_of rs) (first_of qs)
 first-append [] qs = refl
 first-append (r ∷ rs) qs = go r.applies (first-append rs qs)
   where
@@ -199,7 +204,7 @@ is_ok-both (Err r) q = refl
 
 pub rule_counted : (n m : ℕ) (r : Rule)
     → entry_fits n m (AddRule r) ≡ (is_ok (first_of (index_refusals n r)) && is_ok (first_of (weight_refusals r)))
-unfolding entry_fits index_refusals weight_refusals
+unfolding entry_fits place_refusals weight_refusals
 rule_counted n m r =
     ap is_ok (first-append (index_refusals n r) (weight_refusals r)) ∙ is_ok-both (first_of (index_refusals n r)) (first_of (weight_refusals r))
 

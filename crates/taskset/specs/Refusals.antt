@@ -82,12 +82,12 @@ row_refusals t =
     ∷ entry_by Section (outside 0 t.execution (longest_section t))
     ∷ []
 
--- a rule's two task indices, in a set of n tasks
-unfoldable pub index_refusals : ℕ → Rule → List Condition
-index_refusals n r =
-    entry_by SameTask (eqb r.higher.0 r.lower.0)
-    ∷ entry_by NoSuchTask (leb n r.higher.0 || leb n r.lower.0)
-    ∷ []
+-- two places in a set of n tasks, as a rule and a join name them
+unfoldable pub place_refusals : ℕ → ℕ → ℕ → List Condition
+place_refusals n i j = entry_by SameTask (eqb i j) ∷ entry_by NoSuchTask (leb n i || leb n j) ∷ []
+
+abbrev pub index_refusals : ℕ → Rule → List Condition
+index_refusals n r = place_refusals n r.higher.0 r.lower.0
 
 -- and its weight
 unfoldable pub weight_refusals : Rule → List Condition

@@ -8,7 +8,7 @@ mod system;
 ghost use Rattle.std.specs.Prelude.{◌≡◌, ◌≤◌, ◌<◌, true, ◌↔◌, is_some, IfSome};
 ghost use Rattle.taskset.specs.declared.Call.TheVariants.{AddTask, AddRule};
 ghost use Rattle.taskset.specs.Refusals.{max_tasks, max_rules, resources, section_on, longest_section, uses_none};
-ghost use Rattle.taskset.specs.Refusals.{first_of, row_refusals, index_refusals, weight_refusals, refusal_by};
+ghost use Rattle.taskset.specs.Refusals.{first_of, row_refusals, place_refusals, index_refusals, weight_refusals, refusal_by};
 ghost use Rattle.taskset.specs.Model.{refusal_of, Sound};
 ghost use Rattle.taskset.specs.Numbers.{task_of, rule_of};
 ghost use Rattle.taskset.specs.Views.{lists_of};
@@ -74,9 +74,9 @@ pub enum Call {
     AddRule(Rule),
 }
 
-// What an adding call answers: whether it is taken, or why not, and the set after the call.
+// What a call that changes a set answers: whether it is taken, or why not, and the set after the call.
 #[derive(Clone, Copy)]
-pub struct Added {
+pub struct Changed {
     pub answer: Result<(), Refusal>,
     pub set: TaskSet,
 }
@@ -179,17 +179,10 @@ impl Rule {
     }
 
     // Refusals 6 and 11, in a set of n tasks.
-    #[tactic(auto, unfolding(crate::specs::Refusals::index_refusals))]
     fn check(&self, n: usize) -> Result<(), Refusal>
         ensures { result ≡ first_of (index_refusals n self.now) }
     {
-        if self.higher == self.lower {
-            return Err(Refusal::SameTask);
-        }
-        if n <= self.higher.0 || n <= self.lower.0 {
-            return Err(Refusal::NoSuchTask);
-        }
-        Ok(())
+        check_places(n, self.higher, self.lower)
     }
 
     // Refusal 15.
@@ -202,6 +195,20 @@ impl Rule {
         }
         Ok(())
     }
+}
+
+// Two places in a set of n tasks: refusals 6 and 11.
+#[tactic(auto, unfolding(crate::specs::Refusals::place_refusals))]
+pub fn check_places(n: usize, one: TaskIndex, other: TaskIndex) -> Result<(), Refusal>
+    ensures { result ≡ first_of (place_refusals n one.0 other.0) }
+{
+    if one == other {
+        return Err(Refusal::SameTask);
+    }
+    if n <= one.0 || n <= other.0 {
+        return Err(Refusal::NoSuchTask);
+    }
+    Ok(())
 }
 
 // A call to a set of n tasks and m rules: refusals 1 to 5, then 10; or 6, 11, 12, then 15.
@@ -318,7 +325,7 @@ impl TaskSet {
 
     // An adding call: refusal 14, then those of the call.
     #[tactic(auto, using(crate::specs::AddingLaws::adding))]
-    pub fn add(mut self, call: Call) -> Added
+    pub fn add(mut self, call: Call) -> Changed
         ensures { result ≡ add self call }
     {
         let answer = if self.is_made() {
@@ -326,18 +333,18 @@ impl TaskSet {
         } else {
             Err(Refusal::NotMade)
         };
-        Added { answer, set: self }
+        Changed { answer, set: self }
     }
 
     // Refusals 14, 1 to 5, 10.
-    pub fn add_task(self, task: Task) -> Added
+    pub fn add_task(self, task: Task) -> Changed
         ensures { result ≡ add self (AddTask task) }
     {
         self.add(Call::AddTask(task))
     }
 
     // Refusals 14, 6, 11, 12, 15.
-    pub fn add_rule(self, rule: Rule) -> Added
+    pub fn add_rule(self, rule: Rule) -> Changed
         ensures { result ≡ add self (AddRule rule) }
     {
         self.add(Call::AddRule(rule))

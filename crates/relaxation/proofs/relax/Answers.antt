@@ -1,10 +1,13 @@
 -- 14, 13, 16, or what is found. Assumes nothing.
 use Rattle.std.proofs.Common.{sym}
-use Rattle.relaxation.proofs.RelaxingLaws.{relax_14, relax_13, relax_16, relax_found, relax_says}
+use Rattle.taskset.specs.ChangingLaws.{on_made_14}
+use Rattle.relaxation.specs.Relaxing.{relaxing_on, relaxing}
+use Rattle.relaxation.proofs.RelaxingLaws.{relax_13, relax_16, relax_found, relax_says}
 use Rattle.relaxation.proofs.relax.Goals as goal
 
 pub returns-in_default-clause-value : goal.returns-in_default-clause-value
-returns-in_default-clause-value c = relax_14 c.args.set.now c.args.budget (sym c.in_default.ensures.made)
+unfolding relaxing
+returns-in_default-clause-value c = on_made_14 c.args.set.now (λ l. relaxing_on l c.args.budget) (sym c.in_default.ensures.made)
 
 pub returns-in_default-clause-says : goal.returns-in_default-clause-says
 returns-in_default-clause-says c = relax_says _ _ _ (returns-in_default-clause-value c)

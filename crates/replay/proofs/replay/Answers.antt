@@ -1,6 +1,6 @@
 -- A turn makes one call more; then solving, and the theorems of its answer. Assumes nothing.
 use Rattle.std.proofs.Common.{sym, ap, subst, arith, ◌∙◌, take_all}
-use Rattle.taskset.specs.declared.Added.{Added}
+use Rattle.taskset.specs.declared.Changed.{Changed}
 use Rattle.taskset.specs.Model.{no_lists, heard}
 use Rattle.taskset.specs.Adding.{fresh_set, run}
 use Rattle.verdict.specs.declared.Solved.{Solved}
@@ -16,7 +16,7 @@ unfolding run
 loop-call-init c = c.fresh-set.ensures
 
 pub loop-call-preserved : goal.loop-call-preserved
-loop-call-preserved c = replay_turn c.args.calls.now c.loop-call.call-index _ _ _ (omega arith) c.loop-call.invariant (ap (λ (a : Added). a.set) c.add.ensures)
+loop-call-preserved c = replay_turn c.args.calls.now c.loop-call.call-index _ _ _ (omega arith) c.loop-call.invariant (ap (λ (a : Changed). a.set) c.add.ensures)
 
 pub returns : goal.returns
 returns c =

@@ -1,10 +1,13 @@
 -- 14, 11, or what halving finds. Assumes nothing.
 use Rattle.std.proofs.Common.{sym}
-use Rattle.sensitivity.proofs.SensitivityLaws.{answer_14, answer_11, answer_found, answer_says}
+use Rattle.taskset.specs.ChangingLaws.{on_made_14}
+use Rattle.sensitivity.specs.Longest.{longest_on, longest_of}
+use Rattle.sensitivity.proofs.SensitivityLaws.{answer_11, answer_found, answer_says}
 use Rattle.sensitivity.proofs.longest_execution.Goals as goal
 
 pub returns-in_default-clause-value : goal.returns-in_default-clause-value
-returns-in_default-clause-value c = answer_14 c.args.set.now c.args.task.0 (sym c.in_default.ensures.made)
+unfolding longest_of
+returns-in_default-clause-value c = on_made_14 c.args.set.now (λ l. longest_on l c.args.task.0) (sym c.in_default.ensures.made)
 
 pub returns-in_default-clause-says : goal.returns-in_default-clause-says
 returns-in_default-clause-says c = answer_says _ _ _ (returns-in_default-clause-value c)

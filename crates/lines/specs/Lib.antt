@@ -7,3 +7,4 @@ pub mod Parts
 pub mod PartsLaws
 pub mod Line
 pub mod LineWriting
+pub mod LineLengths

@@ -132,12 +132,23 @@ abbrev pub AllClear : ℕ → List (List ℕ) → Type 0
 AllClear m [] = Unit {0}
 AllClear m (p ∷ ps) = Clear m p × AllClear m ps
 
+clear-append : (m : ℕ) (p q : List ℕ) → Clear m p → Clear m q → Clear m (p ++ q)
+clear-append m [] q c d = d
+clear-append m (b ∷ bs) q c d = (c.0, clear-append m bs q c.1 d)
+
+-- so none is in such parts that another byte joins
+pub join_clear : (n m : ℕ) → eqb n m ≡ false → (ps : List (List ℕ)) → AllClear m ps → Clear m (join n ps)
+join_clear n m other [] c = tt
+join_clear n m other (p ∷ []) c = c.0
+join_clear n m other (p ∷ q ∷ r) c =
+    clear-append m p (n ∷ join n (q ∷ r)) c.0 (other, join_clear n m other (q ∷ r) c.1)
+
 parts_clear : (m : ℕ) (p : List ℕ) → Clear m p → parts m p ≡ p ∷ []
 unfolding parts
 parts_clear m [] c = refl
 parts_clear m (b ∷ bs) c = parts_on m b bs c.0 ∙ ap (cons_first b) (parts_clear m bs c.1)
 
-parts_after : (m : ℕ) (p rest : List ℕ) → Clear m p → parts m (p ++ m ∷ rest) ≡ p ∷ parts m rest
+pub parts_after : (m : ℕ) (p rest : List ℕ) → Clear m p → parts m (p ++ m ∷ rest) ≡ p ∷ parts m rest
 parts_after m [] rest c = parts-here m m rest (eq-eqb m m refl)
 parts_after m (b ∷ bs) rest c = parts_on m b (bs ++ m ∷ rest) c.0 ∙ ap (cons_first b) (parts_after m bs rest c.1)
 

@@ -1,18 +1,15 @@
 -- A listing is never long: an order's at most 9 + 64 × 14 bytes, a core's at most 9 + 128 × 10, and that of an empty core at most
 -- 9 + 64 × 16. Assumes nothing.
-use Rattle.std.specs.Prelude.{Result, Ok, ◌≡◌, refl, Bool, true, false, ◌⊎◌, ℕ, zero, suc, ◌+◌, ◌*◌, ◌^◌, ◌≤◌, ◌<◌, length, get_or, take}
-use Rattle.std.proofs.Common.{sym, ap, subst, ◌∙◌, inl, inr, ⊎_elim, mul-suc, add-one, arith, length-append, get_or-take}
-use mathlib.Core.List.{List, [], ◌∷◌, ◌++◌, flat_map, append-nil}
+use Rattle.std.specs.Prelude.{Result, Ok, ◌≡◌, Bool, true, ◌⊎◌, ℕ, ◌+◌, ◌*◌, ◌^◌, ◌≤◌, ◌<◌, length, get_or, take}
+use Rattle.std.proofs.Common.{sym, ap, subst, ◌∙◌, inl, inr, ⊎_elim, arith, get_or-take}
+use mathlib.Core.List.{List, [], ◌∷◌}
 use Rattle.std.proofs.Math.ListN.{get_or-map, get_or-eq_default}
-use Rattle.sets.specs.Choice.{pick, lt_or_le}
+use Rattle.sets.specs.Choice.{lt_or_le}
 use Rattle.sets.specs.Bounded.{without}
-use Rattle.sets.specs.Collected.{collected, collected_few, collected_none}
+use Rattle.sets.specs.Collected.{collected, collected_few, collected_at, collected_entry, collected_none}
 use Rattle.sets.specs.Marks.{marked}
-use Rattle.sets.specs.Flat.{flat_snoc}
-use Rattle.lines.specs.Decimal.{tab}
-use Rattle.lines.specs.ReadBack.{decimal-width}
 use Rattle.lines.specs.Line.{line, lines_of}
-use Rattle.lines.specs.LineWriting.{field_long, tabbed, line_long}
+use Rattle.lines.specs.LineLengths.{line_short, lines_short}
 use Rattle.taskset.specs.declared.refusals.Refusal.{Refusal}
 use Rattle.taskset.specs.declared.TaskIndex.{TaskIndex}
 use Rattle.taskset.specs.declared.TaskSet.{TaskSet}
@@ -39,60 +36,14 @@ use Rattle.listing.proofs.GivesLaws.{late_lines_lem, RefusedOrListed, refusal, v
 
 -- ---- lines
 
--- numbers of at most so many digits each
-abbrev Digits : List ℕ → List ℕ → Type 0
-Digits [] [] = Unit
-Digits [] (n ∷ ns) = ⊥
-Digits (k ∷ ks) [] = ⊥
-Digits (k ∷ ks) (n ∷ ns) = (1 ≤ k) × (n < 10 ^ k) × Digits ks ns
-
--- their bytes, with the one after each
-abbrev most_bytes : List ℕ → ℕ
-most_bytes [] = 0
-most_bytes (k ∷ ks) = k + 1 + most_bytes ks
-
-numbers_short : (ks ns : List ℕ) → Digits ks ns → length (flat_map tabbed ns) ≤ most_bytes ks
-unfolding flat_map
-numbers_short [] [] d = omega arith
-numbers_short [] (n ∷ ns) d = absurd d
-numbers_short (k ∷ ks) [] d = absurd d
-numbers_short (k ∷ ks) (n ∷ ns) d =
-    omega (
-      arith,
-      decimal-width k n d.0 d.1,
-      field_long n tab,
-      length-append (tabbed n) (flat_map tabbed ns),
-      numbers_short ks ns d.2,
-    )
-
-line_short : (head ks ns : List ℕ) → 1 ≤ length ns → Digits ks ns → length (line head ns) ≤ length head + most_bytes ks
-line_short head ks ns some d = omega (arith, line_long head ns some, numbers_short ks ns d)
-
--- lines of at most b bytes
-lines_short : (b : ℕ) (head : List ℕ) (isIn : ℕ → Bool) (nums : ℕ → List ℕ) (n : ℕ) → ((k : ℕ) → k < n → length (line head (nums k)) ≤ b)
+-- one for each number that is in, of at most b bytes
+collected_short : (b : ℕ) (head : List ℕ) (isIn : ℕ → Bool) (nums : ℕ → List ℕ) (n : ℕ) → ((k : ℕ) → k < n → length (line head (nums k)) ≤ b)
     → let lines = collected isIn nums n in length (lines_of head lines) ≤ b * length lines
-unfolding collected lines_of flat_map
-lines_short b head isIn nums zero each = omega arith
-lines_short b head isIn nums (suc n) each =
-    go (isIn n) (each n (omega arith)) (lines_short b head isIn nums n (λ k h. each k (omega arith)))
-  where
-    go : (c : Bool) → length (line head (nums n)) ≤ b
-        → length (lines_of head (collected isIn nums n)) ≤ b * length (collected isIn nums n)
-        → let lines = collected isIn nums n ++ pick c (nums n ∷ []) [] in length (lines_of head lines) ≤ b * length lines
-    go true one front =
-        let lines = collected isIn nums n in
-        omega (
-          arith,
-          ap length (flat_snoc (line head) lines (nums n)),
-          length-append (flat_map (line head) lines) (line head (nums n)),
-          ap (λ (k : ℕ). b * k) (length-append lines (nums n ∷ []) ∙ add-one (length lines)),
-          mul-suc b (length lines),
-        )
-    go false one front = rw (append-nil (collected isIn nums n)) front
-
-no_lines : (head : List ℕ) → length (lines_of head []) ≡ 0
-unfolding lines_of flat_map
-no_lines head = refl
+collected_short b head isIn nums n each =
+    let lines = collected isIn nums n in
+    lines_short b head lines (λ i h.
+    let (k, below, t, e) = collected_entry isIn nums n i h in
+    rw (← e, collected_at isIn nums n k [] below t) (each k below))
 
 -- and the head line, with fewer than 10 ^ d lines
 listing_long : (d : ℕ) (head : List ℕ) (lines lates : List (List ℕ)) → 1 ≤ d → length lines < 10 ^ d
@@ -102,8 +53,7 @@ listing_long d head lines lates some few =
     omega (
       arith,
       listing_size head lines lates,
-      line_long head (n ∷ []) (omega arith),
-      numbers_short (d ∷ []) (n ∷ []) (some, few, tt),
+      line_short head (d ∷ []) (n ∷ []) (omega arith) (some, few, tt),
     )
 
 -- ---- of a verdict that is correct
@@ -161,8 +111,8 @@ module _ (l : Lists) (sound : Sound l) (v : Verdict) (ok : Correct l v) where
       omega (
         arith,
         listing_long 2 (word (Ok Order)) (lines_for l v (Ok Order)) [] (omega arith) (omega arith),
-        lines_short 14 [] (λ k. true) (level_line v.order v.responses) n (level_short e),
-        no_lines late_head,
+        collected_short 14 [] (λ k. true) (level_line v.order v.responses) n (level_short e),
+        lines_short 0 late_head [] (λ i h. absurd (omega arith)),
       )
 
   -- late lines stand under no others
@@ -170,7 +120,7 @@ module _ (l : Lists) (sound : Sound l) (v : Verdict) (ok : Correct l v) where
   core_short e = go (lt_or_le (length (lines_for l v (Ok Core))) 1)
     where
       rules : length (lines_of [] (lines_for l v (Ok Core))) ≤ 10 * length (lines_for l v (Ok Core))
-      rules = lines_short 10 [] (marked v.core) (rule_line l.rules) (length l.rules) rule_short
+      rules = collected_short 10 [] (marked v.core) (rule_line l.rules) (length l.rules) rule_short
 
       go : (length (lines_for l v (Ok Core)) < 1) ⊎ (1 ≤ length (lines_for l v (Ok Core))) → Short (Ok Core)
       go (inl none) =
@@ -180,7 +130,7 @@ module _ (l : Lists) (sound : Sound l) (v : Verdict) (ok : Correct l v) where
             arith,
             rules,
             listing_long 3 (word (Ok Core)) (lines_for l v (Ok Core)) (late_for l (Ok Core)) (omega arith) (omega arith),
-            lines_short 16 late_head (unassignable l) (late_line l.tasks (unassignable l)) n late_short,
+            collected_short 16 late_head (unassignable l) (late_line l.tasks (unassignable l)) n late_short,
           )
       go (inr some) =
           let few = sound.few_rules in
@@ -192,7 +142,7 @@ module _ (l : Lists) (sound : Sound l) (v : Verdict) (ok : Correct l v) where
             arith,
             rules,
             listing_long 3 (word (Ok Core)) (lines_for l v (Ok Core)) [] (omega arith) (omega arith),
-            no_lines late_head,
+            lines_short 0 late_head [] (λ i h. absurd (omega arith)),
           ))
 
   listing_few : length (listing l v) ≤ max_listing

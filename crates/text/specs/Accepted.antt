@@ -19,11 +19,7 @@ use Rattle.taskset.specs.declared.Call.TheVariants.{AddTask, AddRule}
 use Rattle.taskset.specs.Refusals.{resources}
 use Rattle.taskset.specs.Numbers.{task_numbers, rule_numbers, task_of, rule_of, task_size, rule_size}
 use Rattle.text.specs.LineLaws.{asks}
-use Rattle.text.specs.Text.{letter_t, letter_r, is_letter, are_numbers, has_form, values_in, asked, line_in}
-
--- the fields of a line: a letter, and numbers in decimal
-abbrev pub lettered : ℕ → List ℕ → List (List ℕ)
-lettered letter ns = (letter ∷ []) ∷ map decimal ns
+use Rattle.text.specs.Text.{letter_t, letter_r, is_letter, are_numbers, has_form, values_in, asked, line_in, lettered}
 
 -- numbers of at most 7 digits
 abbrev pub Short : List ℕ → Type 0
@@ -50,17 +46,21 @@ numbers_written (n ∷ ns) s =
     let rest = numbers_written ns s.1 in
     (rw first.0 rest.0, ap₂ ◌∷◌ first.1 rest.1)
 
--- no digit is a tab
-digits_clear : (ds : List ℕ) → T (are_digits ds) → Clear tab ds
-unfolding are_digits
-digits_clear [] t = tt
-digits_clear (d ∷ ds) t =
-    let high = leb→le 48 d (and_left (leb 48 d) (leb d 57) (and_left (is_digit d) (are_digits ds) t)) in
-    (ne_eqb d tab (omega arith), digits_clear ds (and_right (is_digit d) (are_digits ds) t))
+-- no digit is a mark below the byte of 0, as a tab and a line feed are
+module _ (m : ℕ) (low : m < 48) where
+  digits_clear : (ds : List ℕ) → T (are_digits ds) → Clear m ds
+  unfolding are_digits
+  digits_clear [] t = tt
+  digits_clear (d ∷ ds) t =
+      let high = leb→le 48 d (and_left (leb 48 d) (leb d 57) (and_left (is_digit d) (are_digits ds) t)) in
+      (ne_eqb d m (omega arith), digits_clear ds (and_right (is_digit d) (are_digits ds) t))
 
-numbers_clear : (ns : List ℕ) → AllClear tab (map decimal ns)
-numbers_clear [] = tt
-numbers_clear (n ∷ ns) = (digits_clear (decimal n) (decimal_digits n), numbers_clear ns)
+  numbers_clear : (ns : List ℕ) → AllClear m (map decimal ns)
+  numbers_clear [] = tt
+  numbers_clear (n ∷ ns) = (digits_clear (decimal n) (decimal_digits n), numbers_clear ns)
+
+  pub lettered_clear : (letter : ℕ) → letter ≢ m → (ns : List ℕ) → AllClear m (lettered letter ns)
+  lettered_clear letter other ns = ((ne_eqb letter m other, tt), numbers_clear ns)
 
 -- ---- a letter and numbers
 
@@ -101,8 +101,7 @@ module _ (letter : ℕ) (ns : List ℕ) where
 
   fields_of_line : letter ≢ tab → (bytes : List ℕ) → bytes ≡ join tab (lettered letter ns) → line_in bytes ≡ asked (lettered letter ns)
   fields_of_line other bytes e =
-      let clear : AllClear tab (lettered letter ns) = ((ne_eqb letter tab other, tt), numbers_clear ns) in
-      rw (e, parts_join tab (lettered letter ns) (omega arith) clear)
+      rw (e, parts_join tab (lettered letter ns) (omega arith) (lettered_clear tab (omega arith) letter other ns))
 
 -- ---- both kinds of lines
 

@@ -4,3 +4,5 @@ pub mod LineLaws
 pub mod Lines
 pub mod Asking
 pub mod Accepted
+pub mod Written
+pub mod WrittenLaws

@@ -54,7 +54,7 @@ text_starts text o z e h =
       same = rw (z, le-ltb max_text (length text) h);
     }
 
-line_then : (l : Lists) (line : ℕ) (bytes : List ℕ) (more : List (List ℕ)) → 0 < length more
+pub line_then : (l : Lists) (line : ℕ) (bytes : List ℕ) (more : List (List ℕ)) → 0 < length more
     → read_from l line (bytes ∷ more) ≡ by_line l line (line_in bytes) (λ k. read_from k (suc line) more)
 unfolding read_from
 line_then l line bytes [] h = absurd (omega arith)

@@ -2,7 +2,7 @@
 -- Assumes nothing.
 use Rattle.std.specs.Prelude.{Option, Some, None, Result, Ok, Err, Bool, true, false, ◌&&◌, List, [], ◌∷◌, map, ℕ, suc, ltb, eqb, length, drop}
 use Rattle.sets.specs.Choice.{pick}
-use Rattle.lines.specs.Decimal.{tab, feed, is_number, value}
+use Rattle.lines.specs.Decimal.{tab, feed, is_number, value, decimal}
 use Rattle.lines.specs.Parts.{parts}
 use Rattle.taskset.specs.declared.refusals.Refusal.{Refusal}
 use Rattle.taskset.specs.declared.refusals.Refusal.TheVariants.{BadLine, LongText}
@@ -55,6 +55,10 @@ asked fs =
 -- fields are parted by one tab
 abbrev pub line_in : List ℕ → Option Call
 line_in bytes = asked (parts tab bytes)
+
+-- the fields of an accepted line: a letter, and numbers in decimal
+abbrev pub lettered : ℕ → List ℕ → List (List ℕ)
+lettered letter ns = (letter ∷ []) ∷ map decimal ns
 
 -- ---- a text
 

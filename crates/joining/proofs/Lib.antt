@@ -1,0 +1,9 @@
+pub mod PlaceLaws
+pub mod SideBySideLaws
+pub mod JoinedDemand
+pub mod RenamingLaws
+pub mod RefusingLaws
+pub mod MergingLaws
+pub mod JoinedLaws
+pub mod JoinLaws
+pub mod Joinings

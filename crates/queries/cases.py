@@ -3,12 +3,15 @@
 
     cases.py PATH/enumerate.py STAGE SEED COUNT DIR
 
-STAGE is the letter of the last request of document 02 that holds, here f. DIR/stdin gets, joined by form feeds
-(byte 12), questions of four kinds, of each the drawn ones and then those below; COUNT are drawn of the first two,
-a third as many of the third, and of the fourth as many as come among three times COUNT with the second. The first line is the
-question: `trial` and the marks, `longest` and a place, `drop` and a budget, or `cores` and the length of the buffer.
-Then comes the text that it is asked of. DIR/stdout gets the answers. But for what to drop, refusal 9, and lists of which
-the script says what each way out drops, they are the enumerating program's own: of a trial `yes` where one of the orders that meet every deadline keeps the marked rules. The
+STAGE is the letter of the last request of document 02 that holds, here g. DIR/stdin gets, joined by form feeds
+(byte 12), questions of five kinds, of each the drawn ones and then those below; COUNT are drawn of the first two,
+a third as many of the third, of the fourth as many as come among three times COUNT with the second, and of the fifth
+those with a text of at most 1,000 bytes among three times COUNT. `longest` and `cores` are drawn with the letter f
+whatever STAGE is: from g on that program draws others, with `join` among them, and what is stored must stay.
+The first line is the question: `trial` and the marks, `longest` and a place, `drop` and a budget, `cores` and the
+length of the buffer, or `join` and two places. Then comes the text that it is asked of. DIR/stdout gets the answers.
+But for what to drop, refusal 9, and lists of which the script says what each way out drops, they are the enumerating
+program's own: of a trial `yes` where one of the orders that meet every deadline keeps the marked rules. The
 questions below also carry the answer that is known of them, and the two must agree. What to drop is left free: there
 the answers are those of `queries`, built before by `rt run`, and the enumerating program says what is wrong with
 each. Of the questions below the least weight is known too, or the whole answer. Anything wrong ends the script. The
@@ -35,6 +38,8 @@ K4 = A.replace(b"12\t12", b"12\t9")
 SHORT, TABLE = 12, 4096  # so many rules, with so great a budget, leave no way but the cheapest
 CORES = 924  # a short list has at most so many
 BUDGETS = (1, 4095, 4096, 10000)
+DRAWN = 1000  # so many bytes a text has at most that is drawn for `drop` or `join`
+BEFORE_JOIN = "f"  # with which `longest` and `cores` are drawn
 
 
 def example(name):
@@ -97,12 +102,13 @@ def made_trials():
 
 
 def drawn_verbs(program, stage, seed, count):
-    """COUNT questions of `longest` and every one of `cores`, of three times COUNT drawn ones; a tenth of these are of `cores`."""
+    """Three times COUNT drawn questions, with their texts and answers, by the word that they begin with."""
+    kinds = {}
     with tempfile.NamedTemporaryFile("r") as lines:
         subprocess.run([sys.executable, program, "--stage", stage, "--verb-vectors", seed, str(3 * int(count)), lines.name], check=True)
-        cases = [(case["args"], case["text"].encode(), case["answer"]) for case in map(json.loads, lines)]
-    longest = [case for case in cases if case[0][0] == "longest"]
-    return longest[:int(count)], [case for case in cases if case[0][0] == "cores"]
+        for case in map(json.loads, lines):
+            kinds.setdefault(case["args"][0], []).append((case["args"], case["text"].encode(), case["answer"]))
+    return kinds
 
 
 def longest(place, figure):
@@ -181,7 +187,7 @@ def drawn_drops(enumerating, stage, rng, count):
     """Those of at most 1,000 bytes."""
     while count:
         (_, budget), text = enumerating.draw_drop(rng, stage)
-        if len(text) <= 1000:
+        if len(text) <= DRAWN:
             yield int(budget), text
             count -= 1
 
@@ -343,6 +349,132 @@ def listed(enumerating, stage, room, text, ways):
     return bad(0, 9) if room < CORES and answer.startswith("cores") else answer
 
 
+def refused_joins():
+    """Two places, a text, and why it is turned away."""
+    both = r(0, 1) + r(1, 0)
+    # equal places, with a task there or without; then a missing one, or both missing
+    for text, n in ((b"", 0), (GOOD, 1), (A, 3), (B, 3)):
+        for place in range(n):
+            yield place, place, text, bad(0, 6)
+        for place in sorted({n, n + 1, 64, 65, 128, 65536, 9999999}):
+            yield place, place, text, bad(0, 6)
+            for other in (*range(n), 9999998):
+                yield other, place, text, bad(0, 11)
+    for one, other, number in ((63, 63, 6), (64, 64, 6), (63, 64, 11), (64, 65, 11)):
+        yield one, other, GOOD * 64, bad(0, number)
+    for one, other, number in ((0, 0, 6), (1, 1, 6), (1, 2, 11), (0, 64, 11)):  # where rules stand both ways and the sum is too long
+        yield one, other, t(3, 4, 4, 0) * 2 + both, bad(0, number)
+    # different periods, also where rules stand both ways, and where the sum passes one period or the two
+    for tasks in (t(1, 4, 4, 0) + t(1, 5, 5, 0), t(1, 4, 4, 0) + t(1, 6, 4, 0), t(2, 4, 4, 0) + t(3, 5, 5, 0), t(4, 4, 4, 0) + t(5, 5, 5, 0),
+                  t(1, 999999, 999999, 0) + t(1, 1000000, 999999, 0), t(1, 1, 1, 0) + t(1000000, 1000000, 1000000, 0)):
+        for rules in (b"", r(0, 1), r(1, 0), both):
+            yield 0, 1, tasks + rules, bad(0, 17)
+    for one, other in itertools.combinations(range(3), 2):
+        yield one, other, A, bad(0, 17)
+        yield one, other, A + r(one, other) + both + r(other, one), bad(0, 17)
+    yield 0, 3, example("packing-line"), bad(0, 17)
+    # rules both ways, also where the sum passes the period; equal ones, far apart, and among others
+    for tasks in (EASY * 2, t(3, 4, 4, 0) * 2, t(1000000, 1000000, 1000000, 0) * 2):
+        for rules in (both, r(1, 0) + r(0, 1), r(0, 1, 1000) * 2 + r(1, 0) * 2):
+            yield 0, 1, tasks + rules, bad(0, 18)
+    for rules in (r(0, 1) * (RULES - 1) + r(1, 0), r(1, 0) + r(0, 1) * (RULES - 1)):
+        yield 0, 1, EASY * 2 + rules, bad(0, 18)
+    yield 1, 3, EASY * 4 + r(0, 1) + r(1, 3) + r(1, 2) + r(2, 3) + r(3, 1) + r(3, 0), bad(0, 18)
+    yield 0, 63, EASY * 64 + r(63, 0) + r(0, 63), bad(0, 18)
+    # a sum past the period, by one and by more; rules one way
+    for period in (1, 2, 3, 10, 1000000):
+        for own in sorted({1, period // 2 + 1, period}):
+            for other in sorted({period + 1 - own, period}):
+                yield 0, 1, t(own, period, period, 0) + t(other, period, 1, period - 1), bad(0, 2)
+    for rules in (r(0, 1), r(1, 0), r(1, 0) * 2, r(0, 2) + r(2, 1)):
+        yield 0, 1, t(3, 4, 4, 0) * 2 + GOOD + rules, bad(0, 2)
+    # refused texts, also where the places are equal or without a task
+    for one, other in ((0, 1), (0, 0), (64, 9999999)):
+        for weight in (0, 1001):
+            yield one, other, A + r(1, 0) + r(0, 1, weight), bad(5, 15)
+        yield one, other, A + b"r\t1\t0\n", bad(4, 7)
+        yield one, other, GOOD[:-1], bad(1, 7)
+        yield one, other, t(5, 4, 4, 0), bad(1, 2)
+        yield one, other, A + r(1, 0) + r(1, 1), bad(5, 6)
+        yield one, other, A + r(1, 3), bad(4, 11)
+
+
+def joined_rows():
+    """Two places, a text, and the joined text: what becomes of the figures."""
+    # the sum, up to the period, whatever the deadline and the jitter
+    for period in (2, 3, 10, 1000000):
+        for own in sorted({1, period // 2, period - 1}):
+            yield 0, 1, t(own, period, 1, period - 1) + t(period - own, period, 1, period - 1), t(period, period, 1, period - 1)
+    yield 0, 1, t(4, 10, 10, 0) + t(5, 10, 10, 0), t(9, 10, 10, 0)
+    # the smaller deadline and the larger jitter, of one task or of each one
+    for deadline, jitter in itertools.product((1, 49, 51, 100), (0, 29, 31, 99)):
+        yield 0, 1, t(1, 100, 50, 30) + t(2, 100, deadline, jitter), t(3, 100, min(deadline, 50), max(jitter, 30))
+    # the longer section, per resource
+    for k in range(RESOURCES):
+        for own, other in ((3, 0), (3, 2), (2, 3), (0, 3), (3, 3)):
+            yield 0, 1, t(4, 20, 20, 0, *on(k, own)) + t(5, 20, 20, 0, *on(k, other)), t(9, 20, 20, 0, *on(k, 3))
+        yield 0, 1, t(4, 20, 20, 0, *on(k, 1)) + t(5, 20, 20, 0, 1, 2, 3, 4, 5, 4, 3, 2), t(9, 20, 20, 0, 1, 2, 3, 4, 5, 4, 3, 2)
+    yield 0, 1, t(8, 20, 20, 0, *range(1, 9)) + t(8, 20, 20, 0, *range(8, 0, -1)), t(16, 20, 20, 0, 8, 7, 6, 5, 5, 6, 7, 8)
+    # the greatest figures
+    half = t(500000, 1000000, 1000000, 999999, *[500000] * RESOURCES)
+    whole = t(1000000, 1000000, 1000000, 999999, *[500000] * RESOURCES)
+    yield 0, 1, half * 2, whole
+    yield 31, 32, half * 64 + r(33, 63, 1000) * RULES, half * 31 + whole + half * 31 + r(32, 62, 1000) * RULES
+
+
+def joined_places():
+    """Two places, a text, and the joined text: where the others stand, and what becomes of the rules."""
+    # tasks before the two, between them and behind them, and a rule for each pair, the earlier task above in all of them or below
+    a, b, c, d, e = (t(k, 100, 100 - k, k, *on(k, k)) for k in range(1, 6))
+    ab, ae, bd, de = t(3, 100, 98, 2, 0, 1, 2), t(6, 100, 95, 5, 0, 1, 0, 0, 0, 5), t(6, 100, 96, 4, 0, 0, 2, 0, 4), t(9, 100, 95, 5, 0, 0, 0, 0, 4, 5)
+    downward = list(itertools.combinations(range(5), 2))
+
+    def ruled(pairs, *places):
+        return b"".join(r(places[u], places[l], 1 + 100 * u + l) for u, l in pairs if places[u] != places[l])
+
+    for one, other, tasks, places in ((0, 1, ab + c + d + e, (0, 0, 1, 2, 3)), (0, 4, ae + b + c + d, (0, 1, 2, 3, 0)),
+                                      (1, 3, a + bd + c + e, (0, 1, 2, 1, 3)), (3, 4, a + b + c + de, (0, 1, 2, 3, 3))):
+        for pairs in (downward, [(u, l) for l, u in downward]):
+            yield one, other, a + b + c + d + e + ruled(pairs, *range(5)), tasks + ruled(pairs, *places)
+    # rules between the two, in any place, as many as there can be, and all of them
+    two = t(2, 100, 100, 0)
+    for k in range(4):
+        rules = [r(0, 2, 5), r(2, 1, 6), r(2, 0, 7)]
+        rules.insert(k, r(0, 1, 8))
+        yield 0, 1, EASY * 3 + b"".join(rules), two + EASY + r(0, 1, 5) + r(1, 0, 6) + r(1, 0, 7)
+    for many in (0, 1, 2, RULES):
+        yield 0, 1, EASY * 2 + r(1, 0) * many, two
+    for k in (0, 64, RULES - 1):
+        yield 0, 2, EASY * 3 + r(2, 0) * k + r(1, 2, 9) + r(2, 0) * (RULES - 1 - k), two + EASY + r(1, 0, 9)
+    # a way round through a third task, rules both ways with one, and between others: none of these turns it away
+    for rules, joined in ((r(0, 1) + r(1, 2) + r(2, 0), r(0, 1) + r(1, 0)), (r(0, 1, 3) + r(1, 2, 4), r(0, 1, 3) + r(1, 0, 4)),
+                          (r(2, 1) + r(0, 2) * 2 + r(1, 0), r(0, 1) + r(1, 0)), (r(0, 1) + r(1, 0), r(0, 1) + r(1, 0)),
+                          (r(0, 3) + r(3, 2) + r(2, 1) + r(1, 0), r(0, 2) + r(2, 0) + r(0, 1) + r(1, 0)), (r(1, 3) + r(3, 1), r(1, 2) + r(2, 1))):
+        yield 0, 2, EASY * 4 + rules, two + EASY * 2 + joined
+    # equal rules
+    for weight in (1, 7, 1000):
+        yield 1, 2, EASY * 4 + r(1, 0) + r(2, 3, 7) + r(2, 0) + r(1, 3, weight), EASY + two + EASY + r(1, 0) + r(1, 2, 7) + r(1, 0) + r(1, 2, weight)
+    # 64 tasks and 128 rules, none between the two, and one
+    tasks, rules = [t(k + 1, 1000, 1000, 0) for k in range(64)], [(k % 64, (k + 7 + k // 64) % 64) for k in range(RULES)]
+    for one, other in ((0, 1), (0, 63), (31, 38)):
+        places = [one if k == other else k - (other < k) for k in range(64)]
+        kept = [tasks[k] for k in range(64) if k != other]
+        kept[one] = t(one + other + 2, 1000, 1000, 0)
+        yield (one, other, b"".join(tasks + [r(*pair) for pair in rules]),
+               b"".join(kept + [r(places[u], places[l]) for u, l in rules if (u, l) != (one, other)]))
+    # the examples
+    door, folder = (example(name).splitlines(keepends=True) for name in ("door-drive", "carton-folder"))
+    yield 1, 3, b"".join(door), b"".join([door[0], t(140, 1000, 300, 10, 8, 10, 4), door[2], *door[4:6], r(2, 1, 50)])
+    yield 1, 2, b"".join(folder), b"".join([folder[0], t(273, 2000, 350, 0), folder[3], r(0, 1, 10)])
+
+
+def made_joins():
+    """Two places, a text, and the answer, which is the same for the places in either order."""
+    for one, other, text, want in itertools.chain(refused_joins(), joined_rows(), joined_places()):
+        for places in sorted({(one, other), (other, one)}):
+            yield places, text, want if isinstance(want, str) else want.decode()
+
+
 def piece(question, text):
     return question.encode() + b"\n" + text
 
@@ -397,8 +529,8 @@ def main(program, stage, seed, count, room):
         take("trial\t" + marks, text, asked(enumerating, stage, marks, text))
     for marks, text, want in made_trials():
         known("trial\t" + marks, text, asked(enumerating, stage, marks, text), want)
-    drawn_longest, drawn_cores = drawn_verbs(program, stage, seed, count)
-    for question, text, answer in drawn_longest:
+    earlier = drawn_verbs(program, BEFORE_JOIN, seed, count)
+    for question, text, answer in earlier["longest"][:int(count)]:
         take("\t".join(question), text, answer)
     for place, text, want in made_longest():
         question = ("longest", str(place))
@@ -412,12 +544,18 @@ def main(program, stage, seed, count, room):
     for (budget, text, want, ways), drop, got in zip(made, drops[len(drawn):], answers[len(drawn):]):
         wrong = unlike(budget, text, got, want) + wrong_drop(enumerating, stage, budget, text, got, ways)
         must(not wrong, *drop, got, wrong)
-    for _, text, answer in drawn_cores:
+    for _, text, answer in earlier["cores"]:
         take("cores\t%d" % CORES, text, answer)
     for size, text, want, ways in made_cores():
         known("cores\t%d" % size, text, listed(enumerating, stage, size, text, ways), want)
+    drawn_joins = [case for case in drawn_verbs(program, stage, seed, count)["join"] if len(case[1]) <= DRAWN]
+    for question, text, answer in drawn_joins:
+        take("\t".join(question), text, answer)
+    for places, text, want in made_joins():
+        question = ("join", *map(str, places))
+        known("\t".join(question), text, enumerating.answer(text, stage, question), want)
     store(room, [piece(question, text) for question, text, _ in cases], [answer for _, _, answer in cases])
-    print("%d cases, of which %d are drawn" % (len(cases), 2 * int(count) + len(drawn) + len(drawn_cores)))
+    print("%d cases, of which %d are drawn" % (len(cases), 2 * int(count) + len(drawn) + len(earlier["cores"]) + len(drawn_joins)))
 
 
 if __name__ == "__main__":

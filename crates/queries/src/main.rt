@@ -1,10 +1,12 @@
 // Stored cases on standard input, parted by form feeds: a line with a question, and the text that it is asked of. Each is
-// answered by a line, rules to drop by a line and those of the rules and of the cores, and every core by a line and one for each core.
+// answered by a line, rules to drop by a line and those of the rules and of the cores, every core by a line and one for each core,
+// and a join by the lines of the joined set.
 
 #![tactic(auto)]
 
 use all_cores::all_cores;
 use feasibility::try_rules;
+use joining::join;
 use lines::number_from;
 use lines::reader::Reader;
 use relaxation::{Relaxed, relax};
@@ -12,7 +14,7 @@ use sensitivity::longest_execution;
 use std::io;
 use std::io::Read;
 use subsets::SHORT;
-use taskset::{MAX_RULES, Refusal, Rule, TaskIndex, TaskSet};
+use taskset::{MAX_RULES, Refusal, Rule, Task, TaskIndex, TaskSet};
 use text::{Reading, RefusedAt, read};
 
 const FORM_FEED: u8 = 12;
@@ -26,6 +28,7 @@ enum Reply {
     Longest(u64, Option<u64>),
     Drop(Relaxed),
     Cores(usize, [u16; ROOM]),
+    Joined(TaskSet),
     NoQuestion,
 }
 
@@ -45,8 +48,17 @@ fn number_after(question: &[u8], word: &[u8]) -> Option<u64> {
     (digits.len() <= number.end).then_some(number.value)
 }
 
+// The two places that stand alone behind this word, with a tab between them.
+fn places_after(question: &[u8], word: &[u8]) -> Option<(TaskIndex, TaskIndex)> {
+    let fields = question.strip_prefix(word)?;
+    let one = number_from(fields, 0)?;
+    let other = number_after(fields.get(one.end..)?, b"\t")?;
+    Some((TaskIndex(one.value as usize), TaskIndex(other as usize)))
+}
+
 // The answer to a question. `trial` and digits ask for a trial, `longest` and a place how long the task there may run, `drop` and a
-// budget for the cheapest rules to give up, `cores` and the length of a buffer for every core.
+// budget for the cheapest rules to give up, `cores` and the length of a buffer for every core, `join` and two places for the set in
+// which the tasks there are one.
 fn answer(question: &[u8], reading: &Reading) -> Result<Reply, RefusedAt> {
     reading.answer?;
     if let Some(digits) = question.strip_prefix(b"trial\t") {
@@ -64,6 +76,11 @@ fn answer(question: &[u8], reading: &Reading) -> Result<Reply, RefusedAt> {
         let room = (room as usize).min(ROOM);
         let count = all_cores(&reading.set, &mut numbers[..room])?;
         return Ok(Reply::Cores(count, numbers));
+    }
+    if let Some((one, other)) = places_after(question, b"join\t") {
+        let joined = join(reading.set, one, other);
+        joined.answer?;
+        return Ok(Reply::Joined(joined.set));
     }
     Ok(Reply::NoQuestion)
 }
@@ -111,6 +128,30 @@ fn print_cores(rt: &impl Print, count: usize, numbers: &[u16; ROOM]) -> io::Resu
     Ok(())
 }
 
+// The line of a task.
+fn print_task(rt: &impl Print, task: &Task) -> io::Result<()> {
+    print!(rt;
+        "t\t{}\t{}\t{}\t{}",
+        task.execution, task.period, task.deadline, task.jitter
+    )?;
+    for section in task.sections {
+        print!(rt; "\t{section}")?;
+    }
+    println!(rt)
+}
+
+// A set as a text: the lines of its tasks and then of its rules.
+fn print_set(rt: &impl Print, set: &TaskSet) -> io::Result<()> {
+    for task in set.tasks.iter().take(set.ntasks) {
+        print_task(rt, task)?;
+    }
+    for rule in set.rules.iter().take(set.nrules) {
+        let weight = rule.weight;
+        println!(rt; "r\t{}\t{}\t{weight}", rule.higher.0, rule.lower.0)?;
+    }
+    Ok(())
+}
+
 // Answers each case.
 fn main(rt: HostRuntime) -> io::Result<()> {
     let mut cases = Vec::new(rt.alloc());
@@ -128,6 +169,7 @@ fn main(rt: HostRuntime) -> io::Result<()> {
             Ok(Reply::Longest(_, None)) => println!(rt; "none")?,
             Ok(Reply::Drop(relaxed)) => print_relaxed(&rt, &reading.set.rules, &relaxed)?,
             Ok(Reply::Cores(count, numbers)) => print_cores(&rt, count, &numbers)?,
+            Ok(Reply::Joined(set)) => print_set(&rt, &set)?,
             Ok(Reply::NoQuestion) => println!(rt; "no question")?,
             Err(at) => println!(rt; "bad\t{}\t{}", at.line, u64::from(at.refusal))?,
         }

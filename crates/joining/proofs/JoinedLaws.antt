@@ -81,9 +81,9 @@ module _ (l : Lists) (u w : ℕ) (two : Two l u w) where
   place_inside = rw length_is (new_below u w two.apart (length new_rows) one_inside other_inside)
 
   -- what holds of the join and of each old row holds of each row of theirs
-  each_row : (P : Task → Type 0) → P (task_at new_rows (min u w)) → ((j : ℕ) → j < length l.tasks → P (task_at l.tasks j))
+  each_new_row : (P : Task → Type 0) → P (task_at new_rows (min u w)) → ((j : ℕ) → j < length l.tasks → P (task_at l.tasks j))
       → (x : ℕ) → x < length new_rows → P (task_at new_rows x)
-  each_row P join others x h = ⊎_elim (λ e. rw e join) away (cases_eq x (min u w))
+  each_new_row P join others x h = ⊎_elim (λ e. rw e join) away (cases_eq x (min u w))
     where
       back : place (old u w x) ≡ x
       back = new_old u w two.apart x
@@ -150,7 +150,7 @@ module _ (l : Lists) (u w : ℕ) (two : Two l u w) where
       unfolding joined
       joined_sound =
           record {
-            tasks = record { few = omega (arith, length_is, sound.tasks.few); each = each_row InRanges (rw join_is join_ranges) sound.tasks.each };
+            tasks = record { few = omega (arith, length_is, sound.tasks.few); each = each_new_row InRanges (rw join_is join_ranges) sound.tasks.each };
             few_rules =
                 omega (arith, collected_few remain name (length l.rules), sound.few_rules);
             indices = rule_between;
@@ -258,4 +258,4 @@ joint_sectioned one other = length-table resources (λ k. max (section_on one k)
 pub joined_sectioned : (l : Lists) (p q : ℕ) → Two l p q → Sectioned l.tasks → Sectioned (joined (min p q) (max p q) l).tasks
 unfolding joined
 joined_sectioned l p q two =
-    each_row l p q two (λ t. length t.sections ≡ resources) (rw (row_joint l.tasks p q two.apart two.one two.other) (joint_sectioned _ _))
+    each_new_row l p q two (λ t. length t.sections ≡ resources) (rw (row_joint l.tasks p q two.apart two.one two.other) (joint_sectioned _ _))

@@ -86,6 +86,7 @@ row_refusals t =
 unfoldable pub place_refusals : ℕ → ℕ → ℕ → List Condition
 place_refusals n i j = entry_by SameTask (eqb i j) ∷ entry_by NoSuchTask (leb n i || leb n j) ∷ []
 
+-- a rule's two task indices
 abbrev pub index_refusals : ℕ → Rule → List Condition
 index_refusals n r = place_refusals n r.higher.0 r.lower.0
 

@@ -13,11 +13,14 @@ use Rattle.lines.specs.Line.{line, lines_of}
 use Rattle.lines.specs.LineLengths.{Digits, line_short, lines_short}
 use Rattle.taskset.specs.declared.Task.{Task}
 use Rattle.taskset.specs.declared.Rule.{Rule}
+use Rattle.taskset.specs.declared.TaskSet.{TaskSet}
 use Rattle.taskset.specs.declared.Call.{Call}
 use Rattle.taskset.specs.declared.Call.TheVariants.{AddTask, AddRule}
 use Rattle.taskset.specs.Refusals.{max_tasks, max_rules, resources, section_on, InRanges, Between, Weighed, Acceptable, Room}
 use Rattle.taskset.specs.Model.{Lists, no_lists, extended, blank_rule, no_task, task_at, rule_at, Sound, Sectioned}
+use Rattle.taskset.specs.Adding.{lists, Made}
 use Rattle.taskset.specs.RefusalLaws.{taken_exactly}
+use Rattle.taskset.specs.Exact.{made_sound}
 use Rattle.taskset.specs.Numbers.{task_numbers, rule_numbers}
 use Rattle.text.specs.Text.{max_text, letter_t, letter_r, lettered, line_in, Read, finished, read_from, reading}
 use Rattle.text.specs.Lines.{line_then}
@@ -74,6 +77,10 @@ text_of_short l s sectioned =
       s.few_rules,
       length-append (lines_of task_head (map task_numbers l.tasks)) (lines_of rule_head (map rule_numbers l.rules)),
     )
+
+-- so is that of every set that calls make, and joining hands back no other
+pub made_text_short : (s : TaskSet) → Made s → Sectioned (lists s).tasks → length (text_of (lists s)) ≤ 9_600
+made_text_short s made = text_of_short (lists s) (made_sound s made)
 
 -- ---- read back
 

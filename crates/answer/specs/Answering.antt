@@ -118,7 +118,7 @@ module _ (text buffer : List ℕ) where
   listed_short {count} e = go fit (answer-fitted text (length buffer)) e
     where
       go : (o : Outcome) → RefusedOrListed (heard_in text) o → Ok count ≡ answered (line_of text) o → count ≤ max_listing
-      go o (refusal k) e = cc
+      go o (refusal k least few) e = cc
       go o (verdict some) e =
           let same : count ≡ length (listing (heard_in text) (deciding (heard_in text))) = cc in rw same (answer_short text some)
 

@@ -5,6 +5,8 @@ use Rattle.taskset.specs.declared.Call.{Call}
 use Rattle.taskset.specs.declared.Call.TheVariants.{AddTask, AddRule}
 use Rattle.taskset.specs.Model.{Lists, no_lists, Sound}
 use Rattle.taskset.specs.Numbers.{task_numbers, rule_numbers}
+use Rattle.taskset.specs.RefusalLaws.{number_small}
+use Rattle.taskset.proofs.NumberingLaws.{number_some}
 use Rattle.taskset.specs.Holding.{none_sound, heard_sound}
 use Rattle.taskset.specs.Outcome.{Outcome, shown_as, buffer_after}
 use Rattle.lines.specs.Decimal.{feed}
@@ -14,7 +16,7 @@ use Rattle.text.specs.Text.{line_in, reading, asking, asked_in, calls_asked}
 use Rattle.text.specs.Accepted.{Short, task_line_exactly, rule_line_exactly}
 use Rattle.text.specs.Asking.{reading_runs}
 use Rattle.verdict.specs.Verdict.{deciding}
-use Rattle.replay.specs.Calls.{call_numbers, Whole, Words, Asked}
+use Rattle.replay.specs.Calls.{call_numbers, Whole, Words, Asked, AllFromNumbers}
 use Rattle.replay.specs.Replaying.{every_list}
 use Rattle.replay.specs.Theorem.{replay_decides}
 use Rattle.listing.specs.Listing.{listing, fitted, max_listing}
@@ -43,7 +45,7 @@ asked_words (bytes ∷ rest) = go (line_in bytes) refl (asked_words rest)
     go None e h = h
     go (Some c) e h = let w = call_words bytes c e in (w.0, w.1, h)
 
-pub text_words : (text : List ℕ) → (calls : List Call) × Asked calls × (calls ≡ calls_asked text)
+pub text_words : (text : List ℕ) → (calls : List Call) × Asked calls × AllFromNumbers calls × (calls ≡ calls_asked text)
 text_words text = every_list (calls_asked text) (asked_words (parts feed text))
 
 -- ---- a text is refused, or its verdict is shown
@@ -60,7 +62,7 @@ module _ (text : List ℕ) where
     where
       go : (r : Result (Unit {0}) RefusedAt) → (reading text).answer ≡ r → RefusedOrListed l (outcome_by (reading text).lists r)
       go (Ok u) e = rw (reading_runs text e) (decided_either l sound)
-      go (Err r) e = refusal r.refusal
+      go (Err r) e = refusal r.refusal (number_some r.refusal) (omega (arith, number_small r.refusal))
 
   -- in a buffer it stays so
   pub answer-fitted : (room : ℕ) → RefusedOrListed l (fitted room (answer_to text))
@@ -74,7 +76,7 @@ module _ (text : List ℕ) where
   answer_fits room h = go (answer_to text) answer_either
     where
       go : (o : Outcome) → RefusedOrListed l o → fitted room o ≡ o
-      go o (refusal k) = refl
+      go o (refusal k some few) = refl
       go o (verdict some) = rw (le-leb (length (listing l (deciding l))) room (omega (arith, answer_short some)))
 
   -- ---- so what is listed gives what it should

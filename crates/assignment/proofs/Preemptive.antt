@@ -89,7 +89,7 @@ shorter_eases {less} {more} shorter rules =
 pub bare_known : (tasks : List Task) (ready left known : List Bool) → Known (bare tasks) (marked left) (marked known) → (i : ℕ)
     → i < length tasks → (marked ready i && marked known i) ≡ true
     → T (within (candidate (response_at tasks) (marked ready) (marked left)) i)
-bare_known tasks ready left known = known_any (bare tasks) (marked ready) (marked left) (marked known)
+bare_known tasks ready left known k i h e = (known_any (bare tasks) (marked ready) (marked left) (marked known) k i h e).1
 
 -- the task at a level of a search without rules, where nobody left stands further down: one of the tasks, and where it is ready it
 -- may take the level
@@ -101,7 +101,7 @@ module _ (tasks : List Task) (sound : SoundTasks tasks) (s : Search) (held : Sea
   pub bare_any : (ready left : ℕ → Bool) → NoneFrom (length tasks) s.order left level
       → ready (get_or s.order (level - 1) (index 0)).0 ≡ true
       → T (within (candidate (response_at tasks) ready left) (get_or s.order (level - 1) (index 0)).0)
-  bare_any = last_any (bare tasks) (bare_lawful sound) no_rule s held level here high
+  bare_any ready left none e = (last_any (bare tasks) (bare_lawful sound) no_rule s held level here high ready left none e).1
 
 -- for a loop over its levels from the last up
 pub ruleset last_steps = (bare_last, none_next, chosen_any)

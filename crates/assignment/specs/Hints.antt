@@ -18,7 +18,7 @@ use Rattle.assignment.specs.declared.Hints.{Hints}
 use Rattle.assignment.specs.Orders.{no_rule}
 use Rattle.assignment.specs.Audsley.{Problem, without_rules, passes, unassigned, Filled, empty, level}
 use Rattle.assignment.specs.Decision.{Lawful, may_bare, filled_count, filled_passes, filled_only}
-use Rattle.assignment.specs.Search.{index, candidate, within, lowest, Searched, Known, Helps}
+use Rattle.assignment.specs.Search.{index, candidate, AnyOf, lowest, Searched, Known, Helps}
 use Rattle.assignment.specs.Filling.{lowest_at}
 
 -- ---- who is known to pass
@@ -56,9 +56,9 @@ module _ (p : Problem) where
 
   -- a ready task that is known to pass may take the level
   pub known_any : (ready left known : ℕ → Bool) → Known p left known → (i : ℕ) → i < p.tasks → (ready i && known i) ≡ true
-      → T (within (candidate p.test ready left) i)
+      → AnyOf p.tasks (candidate p.test ready left) (Some (record { task = index i; response = 0 }))
   unfolding Known
-  known_any ready left known k i h e = go (ready i) (true→T (ready i && known i) e)
+  known_any ready left known k i h e = (h, go (ready i) (true→T (ready i && known i) e))
     where
       go : (b : Bool) → T (b && known i) → T (is_some (pick b (p.test i (without left i)) None))
       go true t = k i h t
@@ -124,10 +124,12 @@ module _ (p : Problem) (lawful : Lawful p) (active : ℕ → Bool) (s : Search) 
 
     -- it passed there with all the others that are left above it, so where it is ready it may take the level
     pub last_any : (ready left : ℕ → Bool) → NoneFrom n s.order left deep → ready (task_at_level (deep - 1)) ≡ true
-        → T (within (candidate p.test ready left) (task_at_level (deep - 1)))
-    last_any ready left none e =
-        rw e
-        (subst (λ (i : ℕ). T (passes p i (without left i))) same
-        (filled_passes p active lawful low held.filled q filled left
-        (λ j g b t. none (s.free + j) (omega (arith, b, held.holds.free, few)) (omega arith)
-        (subst (λ (i : ℕ). T (left i)) (sym (at_level j b)) t))))
+        → AnyOf n (candidate p.test ready left) (Some (record { task = get_or s.order (deep - 1) (index 0); response = 0 }))
+    last_any ready left none e = (
+      last_task,
+      rw e
+          (subst (λ (i : ℕ). T (passes p i (without left i))) same
+          (filled_passes p active lawful low held.filled q filled left
+          (λ j g b t. none (s.free + j) (omega (arith, b, held.holds.free, few)) (omega arith)
+          (subst (λ (i : ℕ). T (left i)) (sym (at_level j b)) t)))),
+    )

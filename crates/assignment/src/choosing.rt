@@ -1,6 +1,6 @@
 // Who takes a level.
 
-ghost use Rattle.std.specs.Prelude.{◌≡◌, ◌≤◌, ◌<◌, T, length};
+ghost use Rattle.std.specs.Prelude.{◌≡◌, ◌-◌, ◌≤◌, ◌<◌, T, length};
 ghost use Rattle.sets.specs.Bounded.{Subset, without, greatest};
 ghost use Rattle.sets.specs.Marks.{marked};
 ghost use Rattle.response.specs.Blocking.{blocking_of};
@@ -12,12 +12,15 @@ ghost use Rattle.assignment.specs.Orders.{no_rule};
 ghost use Rattle.assignment.specs.LateTasks.{late_response};
 ghost use Rattle.assignment.specs.Audsley.{response_at, bare};
 ghost use Rattle.assignment.specs.Search.{chosen, within, AnyOf, Chose, Searched, Known, Helps};
-ghost use Rattle.assignment.specs.LevelWindow.{LevelWindow};
+ghost use Rattle.assignment.specs.LevelWindow.{Windowless, LevelWindow};
 ghost use Rattle.assignment.specs.Views.{candidates_at};
 
 use crate::{Choice, Hints, OpenLevel, Search};
 use response::{Candidate, level_blocking};
 use taskset::{MAX_TASKS, Task, TaskIndex, Tasks};
+
+// So many tasks are tried for a level by themselves before its window is searched for.
+const TRIED_ALONE: u64 = 2;
 
 // A task left, with the others that are left above it.
 fn candidate<'a>(
@@ -65,31 +68,40 @@ pub fn late_response(
     candidate(tasks, left, blocking, task).timing().reported()
 }
 
+// The room for a window within a task's deadline.
+fn room(task: &Task) -> u64
+    ensures { result ≡ task.now.deadline - task.now.jitter }
+{
+    task.deadline.saturating_sub(task.jitter)
+}
+
 // At a level every task left has the same window, as far as its deadline reaches. It is searched for with the one of these that has
-// the most room, which is the deadline less the jitter.
+// the most room. None lies within `known`, so where nobody has more room, nothing is searched for.
 fn level_window(
     tasks: Tasks<'_>,
     left: &[bool; MAX_TASKS],
     these: &[bool; MAX_TASKS],
     blocking: u64,
+    known: u64,
 ) -> Option<u64>
     requires are_left { Subset (length tasks.list.now) (marked these.now) (marked left.now) }
     requires blocked { BlocksEach tasks.list.now (marked these.now) (marked left.now) blocking }
+    requires windowless { Windowless tasks.list.now (marked these.now) (marked left.now) known }
     ensures { LevelWindow tasks.entry.list.now (marked these.now) (marked left.now) result }
 {
-    let mut most = 0;
+    let mut most = known;
     let mut roomiest = TaskIndex(0);
     for (j, t) in tasks.list.iter().enumerate() {
-        let room = t.deadline.saturating_sub(t.jitter);
+        let room = room(t);
         if these[j] & (most < room) {
             most = room;
             roomiest = TaskIndex(j);
         }
     }
-    if most == 0 {
+    if most == known {
         return None;
     }
-    candidate(tasks, left, blocking, roomiest).window(most)
+    candidate(tasks, left, blocking, roomiest).window_above(known + 1, most)
 }
 
 // The response that a window gives, where it meets the task's deadline.
@@ -109,7 +121,7 @@ pub fn passing(tasks: Tasks<'_>, left: &[bool; MAX_TASKS]) -> [bool; MAX_TASKS]
     ensures { Known (bare tasks.entry.list.now) (marked left.now) (marked result) }
 {
     let blocking = level_blocking(tasks.list, left);
-    let window = level_window(tasks, left, left, blocking);
+    let window = level_window(tasks, left, left, blocking, 0);
     let mut known = [false; MAX_TASKS];
     for (j, t) in tasks.list.iter().enumerate() {
         if left[j] {
@@ -129,32 +141,44 @@ impl OpenLevel<'_> {
         level_response(&candidate(self.tasks, self.left, self.blocking, task))
     }
 
-    // Of the ready tasks that meet their deadline, the one with the greatest index takes the level. The first is tried by itself,
-    // since it mostly is the one.
+    // Of the ready tasks that meet their deadline, the one with the greatest index takes the level. A few are tried by themselves,
+    // since mostly the first is the one; one that has no more room than a late one is late too.
     #[tactic(auto, using(crate::specs::Ready::choosing_steps))]
     fn choose(&self) -> Option<Choice>
         ensures { result ≡ chosen (length self.now.tasks.list.now) (candidates_at self.now) }
     {
+        let mut known = 0;
+        let mut tried = 0u64;
         for i in (0..self.tasks.list.len()).rev() {
-            if self.ready[i] {
-                let task = TaskIndex(i);
-                if let Some(response) = self.response(task) {
-                    return Some(Choice { task, response });
-                }
-                return self.choose_below(i);
+            if !self.ready[i] {
+                continue;
             }
+            let room = room(&self.tasks.list[i]);
+            if room <= known {
+                continue;
+            }
+            if tried == TRIED_ALONE {
+                return self.choose_below(i + 1, known);
+            }
+            let task = TaskIndex(i);
+            if let Some(response) = self.response(task) {
+                return Some(Choice { task, response });
+            }
+            known = room;
+            tried += 1;
         }
         None
     }
 
-    // The same where no task from `end` on may take the level.
+    // The same where no task from `end` on may take the level, and none that is ready has a window within `known`.
     #[tactic(auto, using(crate::specs::Ready::choosing_steps))]
-    fn choose_below(&self, end: usize) -> Option<Choice>
+    fn choose_below(&self, end: usize, known: u64) -> Option<Choice>
         requires end_in_bounds { end ≤ length self.now.tasks.list.now }
         requires late { greatest end (within (candidates_at self.now)) ≡ greatest (length self.now.tasks.list.now) (within (candidates_at self.now)) }
+        requires windowless { Windowless self.now.tasks.list.now (marked self.now.ready.now) (marked self.now.left.now) known }
         ensures { result ≡ chosen (length self.now.tasks.list.now) (candidates_at self.now) }
     {
-        let window = level_window(self.tasks, self.left, self.ready, self.blocking);
+        let window = level_window(self.tasks, self.left, self.ready, self.blocking, known);
         for i in (0..end).rev() {
             if self.ready[i] {
                 if let Some(response) = met(&self.tasks.list[i], window) {

@@ -15,6 +15,18 @@ onto_store xs out i b e h =
     rw (e, drop_store out n b (omega arith), length-append xs (b ∷ []), add-one n)
     (sym (append_snoc xs b (drop (suc n) out)))
 
+-- the last digit of several
+pub write_turn : (out : List ℕ) (rest i : ℕ) → 10 ≤ rest → i ≡ length (decimal rest) → i ≤ length out
+    → onto (decimal (rest / 10)) (set out (i - 1) (48 + rest % 10)) ≡ onto (decimal rest) out
+write_turn out rest i h e room =
+    let long = decimal_longer rest h in
+    rw (decimal-more rest h)
+    (onto_store (decimal (rest / 10)) out (i - 1) (48 + rest % 10) (omega (arith, e, long)) (omega (arith, e, long)))
+
+-- the only one
+pub write_end : (out : List ℕ) (rest : ℕ) → rest < 10 → 0 < length out → set out 0 (48 + rest) ≡ onto (decimal rest) out
+write_end out rest h room = rw (decimal_one rest h) (onto_store [] out 0 (48 + rest) refl room)
+
 -- how many digits there are
 pub one_digit : (n : ℕ) → n < 10 → length (decimal n) ≡ 1
 one_digit n few = ap length (decimal_one n few)
@@ -35,9 +47,7 @@ module _ {n rest place : ℕ} {buffer out : List ℕ} (d : DigitsLeft n buffer r
       let long = decimal_longer rest many in
       record {
         left = omega (arith, d.left);
-        whole =
-            onto_store (decimal (rest / 10)) out (place - 1) (48 + rest % 10) (omega (arith, d.left)) (omega (arith, d.room))
-            ∙ rw (decimal-more rest many) at d.whole;
+        whole = write_turn out rest place many (sym d.left) d.room ∙ d.whole;
         room = omega (arith, length-set out (place - 1) (48 + rest % 10), d.room);
       }
 
@@ -45,5 +55,4 @@ module _ {n rest place : ℕ} {buffer out : List ℕ} (d : DigitsLeft n buffer r
   pub write_last : place ≤ 1 → set out 0 (48 + rest) ≡ onto (decimal n) buffer
   write_last one =
       let few : rest < 10 = grind (arith, decimal_longer, decimal-some) in
-      onto_store [] out 0 (48 + rest) refl (omega (arith, decimal-some rest, d.left, d.room))
-      ∙ rw (decimal_one rest few) at d.whole
+      write_end out rest few (omega (arith, decimal-some rest, d.left, d.room)) ∙ d.whole

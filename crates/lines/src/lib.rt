@@ -8,7 +8,7 @@ ghost use Rattle.std.specs.Prelude.{◌≡◌, List, ℕ, ◌+◌, ◌*◌, ◌<
 ghost use Rattle.sets.specs.Onto.{onto};
 ghost use Rattle.lines.specs.Decimal.{tab, digit_of, number_from, decimal, field};
 ghost use Rattle.lines.specs.Parts.{up_to};
-ghost use Rattle.lines.specs.Line.{line, lines_of, max_head, max_entries, max_line};
+ghost use Rattle.lines.specs.Line.{line, lines_of, chunks, max_head, max_entries, max_line};
 
 use memchr::memchr;
 
@@ -166,6 +166,34 @@ pub fn put_lines<const W: usize>(out: &mut [u8], head: &[u8], lines: &[[u64; W]]
     let mut at = 0;
     for line in lines {
         at += put_line(&mut out[at..], head, line);
+    }
+    at
+}
+
+// How many bytes the lines have that `put_rows` writes for a head of this many.
+pub fn rows_size(head: usize, width: usize, numbers: &[u64]) -> usize
+    requires head_le_max_head { head ≤ max_head }
+    requires le_width { (1 ≤ width) × (length numbers.now ≤ max_entries) }
+    ensures by_index { (h : List ℕ) → length h ≡ head → result ≡ length (lines_of h (chunks width numbers.now)) }
+    ensures short { result ≤ max_line * max_entries }
+{
+    let mut bytes = 0;
+    for row in numbers.chunks_exact(width) {
+        bytes += line_size(head, row);
+    }
+    bytes
+}
+
+// Writes a line for each `width` numbers, one after the other, and says how many bytes that is; a rest is left out.
+pub fn put_rows(out: &mut [u8], head: &[u8], width: usize, numbers: &[u64]) -> usize
+    requires le_width { 1 ≤ width }
+    requires numbers_in_bounds { length (lines_of head.now (chunks width numbers.now)) ≤ length out.old }
+    ensures value { result ≡ length (lines_of head.now (chunks width numbers.now)) }
+    ensures written { out.new ≡ onto (lines_of head.now (chunks width numbers.now)) out.old }
+{
+    let mut at = 0;
+    for row in numbers.chunks_exact(width) {
+        at += put_line(&mut out[at..], head, row);
     }
     at
 }

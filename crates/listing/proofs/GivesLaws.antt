@@ -7,6 +7,7 @@ use Rattle.sets.specs.Onto.{onto}
 use Rattle.taskset.specs.declared.refusals.Refusal.{Refusal}
 use Rattle.taskset.specs.declared.refusals.Refusal.TheVariants.{ShortBuffer, NoTasks}
 use Rattle.taskset.specs.declared.TaskSet.{TaskSet}
+use Rattle.taskset.specs.Numbering.{number}
 use Rattle.taskset.specs.Model.{Lists, Sound}
 use Rattle.taskset.specs.Adding.{lists}
 use Rattle.taskset.specs.Passing.{Sized}
@@ -59,17 +60,17 @@ module _ (l : Lists) where
 
   -- what an outcome about these lists is
   pub data RefusedOrListed : Outcome → Type 0 where
-    refusal : (k : Refusal) → RefusedOrListed (Err k)
+    refusal : (k : Refusal) → 1 ≤ number k → number k < 100 → RefusedOrListed (Err k)
     verdict : HasTasks → RefusedOrListed (Ok (listing l (deciding l)))
 
   -- in a buffer it stays so
   pub fitted_either : (room : ℕ) (o : Outcome) → RefusedOrListed o → RefusedOrListed (fitted room o)
-  fitted_either room o (refusal k) = refusal k
+  fitted_either room o (refusal k some few) = refusal k some few
   fitted_either room o (verdict some) = go (leb (length (listing l (deciding l))) room)
     where
       go : (b : Bool) → RefusedOrListed (pick {A = Outcome} b (Ok (listing l (deciding l))) (Err ShortBuffer))
       go true = verdict some
-      go false = refusal ShortBuffer
+      go false = refusal ShortBuffer (omega arith) (omega arith)
 
   module _ (sound : Sound l) where
     pub decided_shown : HasTasks → outcome l (deciding l) ≡ Ok (listing l (deciding l))
@@ -79,7 +80,7 @@ module _ (l : Lists) where
     decided_either = go (lt_or_le (length l.tasks) 1)
       where
         go : (length l.tasks < 1) ⊎ HasTasks → RefusedOrListed (outcome l (deciding l))
-        go (inl none) = subst RefusedOrListed (ap (outcome l) (deciding_13 l (omega arith))) (refusal NoTasks)
+        go (inl none) = subst RefusedOrListed (ap (outcome l) (deciding_13 l (omega arith))) (refusal NoTasks (omega arith) (omega arith))
         go (inr some) = subst RefusedOrListed (sym (decided_shown some)) (verdict some)
 
     -- the listing gives what it should
@@ -91,7 +92,7 @@ module _ (l : Lists) where
     -- so does showing it, where nothing is refused
     pub either_gives : (o : Outcome) → RefusedOrListed o → (was : List ℕ) (r : Result ℕ Refusal) (is : List ℕ) → r ≡ shown_as o
         → is ≡ buffer_after o was → IfOk r (λ count. Gives l (deciding l) count was is)
-    either_gives o (refusal k) was r is e f = rw e tt
+    either_gives o (refusal k some few) was r is e f = rw e tt
     either_gives o (verdict some) was r is e f = rw (e, f) (gives some was)
 
 -- and listing a set

@@ -153,7 +153,7 @@ pub deciding_short : (l : Lists) → Sound l → (bytes : List ℕ) → outcome 
 deciding_short l sound bytes = go (outcome l (deciding l)) (decided_either l sound)
   where
     go : (o : Outcome) → RefusedOrListed l o → o ≡ Ok bytes → length bytes ≤ max_listing
-    go o (refusal k) e = cc
+    go o (refusal k some few) e = cc
     go o (verdict some) e =
         let ok = deciding_correct l sound some in
         let same : bytes ≡ listing l (deciding l) = cc in

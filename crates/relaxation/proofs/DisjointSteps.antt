@@ -2,6 +2,7 @@
 use Rattle.std.specs.Prelude.{Option, Some, None, ◌≡◌, refl, List, [], Bool, true, false, ◌&&◌, not, ℕ, zero, suc, ◌+◌, ◌-◌, ◌≤◌, ◌<◌, T, min, ltb, length, get_or, set}
 use Rattle.std.proofs.Common.{sym, ap, ◌∙◌, add-one, le_refl, not-suc-le-zero, ext_get_or, get_or-set_same, get_or-set_other, length-set, arith, ltb→lt, lt→ltb}
 use Rattle.sets.specs.Choice.{pick, true→T, false→refuted, refuted→false, and_intro, refuted→not, not→refuted}
+pub use Rattle.sets.specs.Bounded.{all_none}
 use Rattle.sets.specs.Bounded.{below_suc, all, all_at, all-next, greatest, Greatest, found, nothing, greatest_is, greatest_at, greatest_under}
 use Rattle.sets.specs.Marks.{marked, table, length-table, get_or-table}
 use Rattle.taskset.specs.Refusals.{max_rules, max_weight}
@@ -10,11 +11,7 @@ use Rattle.relaxation.specs.Weights.{weight_at, least_weight}
 use Rattle.relaxation.specs.declared.cores.DisjointCores.{DisjointCores}
 use Rattle.relaxation.specs.Disjoint.{none_listed, with_number, listed_with, included, listed_in}
 
--- a loop that stops where something holds: nothing yet, it holds at i, it does not
-pub all_none : (p : ℕ → Bool) → T (all 0 p)
-unfolding all
-all_none p = tt
-
+-- a loop that stops where something holds: it holds at i, it does not
 pub all_stops : (n i : ℕ) (p : ℕ → Bool) → i < n → p i ≡ true → false ≡ all n (λ k. not (p k))
 all_stops n i p h e =
     sym (refuted→false (all n (λ k. not (p k))) (λ t. not→refuted (p i) (all_at n (λ k. not (p k)) t i h) (true→T (p i) e)))

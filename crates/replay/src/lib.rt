@@ -13,6 +13,7 @@ use taskset::{Call, TaskSet};
 use verdict::{Solved, solve};
 
 // Each call on the set that the one before handed back, from a fresh one, and solving at the end.
+#[tactic(auto, using(crate::specs::Replaying::run_turn, std::proofs::lemmas::Grind::common_steps))]
 pub fn replay(calls: &[Call]) -> Solved
     ensures value { result ≡ solving (run fresh_set calls.now) }
     ensures demand3 { Demand3 calls.now result.verdict }

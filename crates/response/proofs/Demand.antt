@@ -80,6 +80,13 @@ interference-some t w r low =
     let once : 1 ≤ ceil (w + t.jitter) t.period = (le-div_iff_mul-le r.period.0).1 (omega (arith, r.period)) in
     omega (arith, mul-le-mul_right t.execution once)
 
+-- it grows with the window
+pub demand_mono : (tasks : List Task) (i : ℕ) (above : ℕ → Bool) (v w : ℕ) → v ≤ w → demand tasks i above v ≤ demand tasks i above w
+unfolding demand
+demand_mono tasks i above v w h =
+    add-le-add (le_refl (blocking_of tasks i above + (task_at tasks i).execution))
+    (sum_mono (length tasks) above above _ _ (λ j l t. t) (λ j l t. interference_mono (task_at tasks j) v w h))
+
 module _ {tasks : List Task} (sound : SoundTasks tasks) (i : ℕ) where
   -- a task that is no longer above takes away at least its execution time, and what it may block by is no more
   pub demand_fewer : (fewer above : ℕ → Bool) → Subset (length tasks) fewer above → (w : ℕ) → 1 ≤ w
@@ -143,7 +150,7 @@ interference_once t w low high =
 -- is released once itself
 
 module _ {tasks : List Task} (sound : SoundTasks tasks) (left : ℕ → Bool) where
-  demand_left : (i : ℕ) → i < length tasks → T (left i) → (w : ℕ) → 1 ≤ w → w + (task_at tasks i).jitter ≤ (task_at tasks i).period
+  pub demand_left : (i : ℕ) → i < length tasks → T (left i) → (w : ℕ) → 1 ≤ w → w + (task_at tasks i).jitter ≤ (task_at tasks i).period
       → demand tasks i (without left i) w
       ≡ blocking_of tasks i (without left i) + sum (length tasks) left (λ j. interference (task_at tasks j) w)
   unfolding demand

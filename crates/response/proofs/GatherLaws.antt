@@ -156,3 +156,38 @@ module _ {tasks : List Task} {i : ℕ} {above : ℕ → Bool} (sound : SoundTask
           starts = omega (arith, g.first, brought 1);
           same = λ w low high. omega (arith, rw end at (g.same w low high), brought w);
         }
+
+-- ---- demand at 1
+
+-- the sum of the task's own need and of the first j tasks above
+pub record StartsWith (tasks : List Task) (i : ℕ) (above : ℕ → Bool) (j start : ℕ) : Type 0 where
+  pub high : start ≤ (j + 2) * max_period
+  pub is : start ≡ own tasks i above + above_bring tasks i above j 1
+
+module _ {tasks : List Task} {i : ℕ} {above : ℕ → Bool} (sound : SoundTasks tasks) where
+  pub starts_none : {b : ℕ} → i < length tasks → b ≡ blocking_of tasks i above
+      → StartsWith tasks i above 0 (b + (task_at tasks i).execution)
+  starts_none {b} h e =
+      let fits = own_fits sound h above e in
+      record { high = omega arith; is = rw e (sum_start (own tasks i above) above _) }
+
+  module _ {j start : ℕ} (g : StartsWith tasks i above j start) where
+    pub starts_skipped : above j ≡ false → StartsWith tasks i above (j + 1) start
+    starts_skipped off =
+        record {
+          high = omega (arith, g.high);
+          is = omega (arith, sum_turn start (own tasks i above) j above _ 0 g.is (rw off));
+        }
+
+    pub starts_more : j < length tasks → above j ≡ true → StartsWith tasks i above (j + 1) (start + (task_at tasks j).execution)
+    starts_more here on =
+        let ranges = sound.each j here in
+        let once = interference_once (task_at tasks j) 1 (omega arith) (omega (arith, ranges.jitter)) in
+        record {
+          high = omega (arith, g.high, ranges.period, ranges.execution);
+          is = omega (arith, once, sum_turn start (own tasks i above) j above _ (interference (task_at tasks j) 1) g.is (rw on));
+        }
+
+    pub starts_all : j ≡ length tasks → start ≡ demand tasks i above 1
+    unfolding demand
+    starts_all end = rw end at g.is

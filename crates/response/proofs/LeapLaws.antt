@@ -3,17 +3,18 @@
 -- for each task, a window v has fixed + v × rate ≤ v × scale, and so lies at or above fixed / (scale − rate). Assumes nothing.
 use Rattle.std.specs.Prelude.{◌≡◌, Bool, true, false, List, ℕ, suc, ◌+◌, ◌-◌, ◌*◌, ◌≤◌, ◌<◌, leb, length}
 use Rattle.std.proofs.Math.Path.{refl}
-use Rattle.std.proofs.Common.{sym, ◌∙◌, subst, div-mul-le_self, mul-le-mul, mul-le-mul_left, mul-le-mul_right, mul_assoc, mul_comm, arith, leb-true, leb-false}
+use Rattle.std.proofs.Common.{sym, ◌∙◌, subst, ⊎_elim, div-mul-le_self, mul-le-mul, mul-le-mul_left, mul-le-mul_right, mul_assoc, mul_comm, arith, leb-true, leb-false}
 use Rattle.std.proofs.Math.Nat.{mul-sub, div-le_of_le-mul}
-use Rattle.sets.specs.Choice.{pick}
+use Rattle.sets.specs.Choice.{pick, lt_or_le}
 use Rattle.sets.specs.Bounded.{every}
 use Rattle.sets.specs.Sum.{sum, sum-none, sum_start, sum_more, sum-le, sum_scaled}
 use Rattle.taskset.specs.declared.Task.{Task}
 use Rattle.taskset.specs.Refusals.{max_tasks, max_period, InRanges}
-use Rattle.response.specs.Equation.{ceil, releases, interference}
+use Rattle.taskset.specs.Model.{SoundTasks}
+use Rattle.response.specs.Equation.{ceil, releases, interference, demand}
 use Rattle.response.specs.Agreement.{climb}
-use Rattle.response.proofs.Demand.{ceil-above, ceil_least, interference_mono, interference-le, load_mono, kept_row}
-use Rattle.response.specs.Load.{Bounds, kept_at, IsLoad, load_demand}
+use Rattle.response.proofs.Demand.{ceil-above, ceil_least, interference_mono, interference-le, demand_mono, load_mono, kept_row}
+use Rattle.response.specs.Load.{Bounds, kept_at, IsLoad, load_demand, StandsFor}
 use Rattle.response.specs.Load.{scale, rate, ends, fixed_part, rate_part, bound_of}
 
 -- ---- it is no more than what the task brings
@@ -147,10 +148,25 @@ pub ruleset leap_steps = (fixed_none, rate_none, fixed_more, rate_more, fixed_fi
 -- ---- the climb
 
 -- it starts at the demand at 1
-pub start_bounds : {base : ℕ} {tasks : List Task} {kept : List ℕ} {start : ℕ} → IsLoad base tasks kept → start ≡ load_demand base tasks kept 1
+pub start_bounds : (base : ℕ) (tasks : List Task) (kept : List ℕ) (start : ℕ) → 1 ≤ base → start ≡ load_demand base tasks kept 1
     → (1 ≤ start) × Bounds (load_demand base tasks kept) start
 unfolding load_demand
-start_bounds {base} {tasks} {kept} load e = (
-  omega (arith, load.low, e),
+start_bounds base tasks kept start low e = (
+  omega (arith, low, e),
   subst (Bounds (load_demand base tasks kept)) (sym e) (climb (load_demand base tasks kept) (load_mono base tasks kept) 1 (λ v low met. low)),
 )
+
+-- as no window of a task lies below its demand at 1
+pub demand_start : (tasks : List Task) (i : ℕ) (above : ℕ → Bool) → i < length tasks → SoundTasks tasks
+    → (1 ≤ demand tasks i above 1) × Bounds (demand tasks i above) (demand tasks i above 1)
+unfolding demand
+demand_start tasks i above h sound = (
+  omega (arith, (sound.each i h).execution),
+  climb (demand tasks i above) (demand_mono tasks i above) 1 (λ v low met. low),
+)
+
+-- and a bound on the windows of a demand is one on those of a load that stands for it so far
+pub stands_bounds : {tasks : List Task} {i : ℕ} {above : ℕ → Bool} {reach base : ℕ} {kept : List ℕ} {start : ℕ}
+    → StandsFor tasks i above reach base kept start → (w : ℕ) → w ≤ reach → Bounds (demand tasks i above) w → Bounds (load_demand base tasks kept) w
+stands_bounds {reach = reach} stands w h b v low met =
+    ⊎_elim (λ past. omega (arith, past, h)) (λ short. b v low (omega (arith, stands.same v low short, met))) (lt_or_le reach v)

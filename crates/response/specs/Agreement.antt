@@ -48,6 +48,18 @@ module _ (d : ℕ → ℕ) where
   pub window_both : (room : ℕ) (a : Option ℕ) → a ≡ window_of d room → (a ≡ window_of d room) × SaysWindow d room a
   window_both room a e = (e, subst (SaysWindow d room) (sym e) (window_says room))
 
+  -- a window that is found is the window in more room
+  pub window_wider : (near room w : ℕ) → near ≤ room → Some w ≡ window_of d near → Some w ≡ window_of d room
+  window_wider near room w h e =
+      let s = (window_both near (Some w) e).1 in window_is room (Some w) (s.0, le_trans s.1 h)
+
+  -- where none is, the room and one more is a bound; and where a bound lies beyond the room, there is none
+  pub window_past : (near : ℕ) → None ≡ window_of d near → Bounds d (near + 1)
+  window_past near e v low met = omega (arith, (window_both near None e).1 v low met)
+
+  pub window_none : (room w : ℕ) → room < w → Bounds d w → None ≡ window_of d room
+  window_none room w h b = window_is room None (λ v low met. omega (arith, b v low met))
+
   pub no_window : window_of d 0 ≡ None
   unfolding window_of window_from
   no_window = refl

@@ -1,4 +1,4 @@
-// The climb to a response window over a load: from its demand at 1, by its demand, and every sixth round by leaps.
+// The climb to a response window over a load: from a bound, by its demand, and every sixth round by leaps.
 
 ghost use Rattle.std.specs.Prelude.{◌≡◌, ◌≤◌};
 ghost use Rattle.taskset.specs.Refusals.{max_period, InRanges};
@@ -124,14 +124,26 @@ impl Load<'_> {
         needed
     }
 
-    // The window, climbed to from the demand at 1. Every sixth round leaps. Document 01 has this loop, which yields by `break`.
+    // The window, climbed to from the demand at 1.
     pub fn climb(&self, start: u64, room: u64) -> Option<u64>
         requires room_le_max_period { room ≤ max_period }
         requires start_value { start ≡ demand_in self.now 1 }
         ensures { result ≡ window_of (demand_in self.now) room }
     {
-        let mut w = start;
-        let mut round = 0u64;
+        self.climb_from(start, room, 0)
+    }
+
+    // The same from any bound, at least 1, and in any round of six, 0 to 5, of which the last leaps. Document 01 has this loop, which
+    // yields by `break`.
+    pub fn climb_from(&self, low: u64, room: u64, first: u64) -> Option<u64>
+        requires room_le_max_period { room ≤ max_period }
+        requires low_bound { 1 ≤ low }
+        requires bounds { Bounds (demand_in self.now) low }
+        requires first_in_six { first ≤ 5 }
+        ensures { result ≡ window_of (demand_in self.now) room }
+    {
+        let mut w = low;
+        let mut round = first;
         loop {
             if room < w {
                 break None;

@@ -11,11 +11,12 @@ ghost use Rattle.std.specs.Prelude.{◌≡◌, ◌≤◌, take};
 ghost use Rattle.taskset.specs.Refusals.{max_tasks, max_period};
 ghost use Rattle.response.specs.Equation.{demand, SaysWindow, window_of, response_time, SaysResponse};
 ghost use Rattle.response.specs.Timing.{timing_of, SaysTiming, reported};
-ghost use Rattle.response.specs.Load.{StandsFor};
+ghost use Rattle.response.specs.Load.{Bounds, StandsFor};
 ghost use Rattle.response.specs.Views.{tasks_of, above_of};
 
 pub use blocking::{Resources, Usage, level_blocking};
 pub use candidate::Candidate;
+pub use climb::Part;
 pub use load::Load;
 use taskset::MAX_TASKS;
 
@@ -61,11 +62,13 @@ impl Candidate<'_> {
         Gathered { base, count, start }
     }
 
-    // The response window, searched for up to room.
-    pub fn window(&self, room: u64) -> Option<u64>
-        requires { room ≤ max_period }
-        ensures value { result ≡ window_of (demand (tasks_of self.now) self.now.task.0 (above_of self.now)) room }
-        ensures says { SaysWindow (demand (tasks_of self.now) self.now.task.0 (above_of self.now)) room result }
+    // The response window up to room, where none lies below `low`: climbed to from there, in this round of six.
+    fn climb_from(&self, low: u64, room: u64, first: u64) -> Option<u64>
+        requires low_le_room { low ≤ room }
+        requires room_le_max_period { room ≤ max_period }
+        requires first_in_six { first ≤ 5 }
+        requires bounds { Bounds (demand (tasks_of self.now) self.now.task.0 (above_of self.now)) low }
+        ensures { result ≡ window_of (demand (tasks_of self.now) self.now.task.0 (above_of self.now)) room }
     {
         let mut kept = [0u8; MAX_TASKS];
         let all = self.gather(room, &mut kept);
@@ -74,7 +77,73 @@ impl Candidate<'_> {
             tasks: self.tasks,
             kept: &kept[..all.count],
         };
-        load.climb(all.start, room)
+        load.climb_from(all.start.max(low), room, first)
+    }
+
+    // The response window, searched for up to room.
+    pub fn window(&self, room: u64) -> Option<u64>
+        requires { room ≤ max_period }
+        ensures value { result ≡ window_of (demand (tasks_of self.now) self.now.task.0 (above_of self.now)) room }
+        ensures says { SaysWindow (demand (tasks_of self.now) self.now.task.0 (above_of self.now)) room result }
+    {
+        self.climb_from(0, room, 0)
+    }
+
+    // demand(1), in which each task is released once.
+    fn start(&self) -> u64
+        ensures { result ≡ demand (tasks_of self.now) self.now.task.0 (above_of self.now) 1 }
+    {
+        let mut sum = self.blocking + self.tasks.list[self.task.0].execution;
+        for (j, t) in self.tasks.list.iter().enumerate() {
+            if self.above[j] {
+                sum += t.execution;
+            }
+        }
+        sum
+    }
+
+    // How far to search from `from` on: to the first place, twice as far or further, from which a task above may be released twice,
+    // or to the room.
+    fn step(&self, from: u64, room: u64) -> u64
+        requires from_le_room { from ≤ room }
+        requires room_le_max_period { room ≤ max_period }
+        ensures { (from ≤ result) × (result ≤ room) }
+    {
+        let aim = 2 * from;
+        if room <= aim {
+            return room;
+        }
+        let mut reach = room;
+        for (j, t) in self.tasks.list.iter().enumerate() {
+            if self.above[j] {
+                let once = t.period - t.jitter;
+                if (aim <= once) & (once < reach) {
+                    reach = once;
+                }
+            }
+        }
+        reach
+    }
+
+    // The response window up to room, where none lies below `low`. It is searched for near by first, where most tasks above are
+    // released once and are not divided for; what lies beyond is leapt to at once.
+    pub fn window_above(&self, low: u64, room: u64) -> Option<u64>
+        requires room_le_max_period { room ≤ max_period }
+        requires bounds { Bounds (demand (tasks_of self.now) self.now.task.0 (above_of self.now)) low }
+        ensures { result ≡ window_of (demand (tasks_of self.now) self.now.task.0 (above_of self.now)) room }
+    {
+        let from = low.max(self.start());
+        if room < from {
+            return None;
+        }
+        let reach = self.step(from, room);
+        if let Some(window) = self.climb_from(from, reach, 0) {
+            return Some(window);
+        }
+        if reach == room {
+            return None;
+        }
+        self.climb_from(reach + 1, room, 5)
     }
 
     // The response, searched for up to a limit.

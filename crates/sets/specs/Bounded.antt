@@ -56,6 +56,9 @@ unfolding all
 all_of zero p each = tt
 all_of (suc n) p each = and_intro (p n) (all n p) (each n (le_refl (suc n))) (all_of n p (λ k h. each k (le_step h)))
 
+pub all-not : (n : ℕ) (p : ℕ → Bool) (k : ℕ) → k < n → p k ≡ false → all n p ≡ false
+all-not n p k h e = refuted→false (all n p) (λ t. false→refuted (p k) e (all_at n p t k h))
+
 -- equal tests, and the numbers below n and those from n on
 pub all_same : (n : ℕ) (p q : ℕ → Bool) → ((k : ℕ) → k < n → p k ≡ q k) → all n p ≡ all n q
 unfolding all
@@ -67,9 +70,19 @@ unfolding all
 all_split n zero p = rw (add-zero n) (and-true (all n p))
 all_split n (suc m) p = rw (add-suc n m, all_split n m p) (and_swap (p (n + m)) (all n p) (all m (λ k. p (n + k))))
 
+-- a loop that counts up: nothing yet, one number more, and the whole range
+pub all_none : (p : ℕ → Bool) → T (all 0 p)
+all_none p = all_of 0 p (λ k h. absurd (not-suc-le-zero h))
+
 pub all-next : (i : ℕ) (p : ℕ → Bool) → all (i + 1) p ≡ (p i && all i p)
 unfolding all
 all-next i p = rw add-one
+
+pub all_more : (i : ℕ) (p : ℕ → Bool) → T (all i p) → p i ≡ true → T (all (i + 1) p)
+all_more i p t e = rw (all-next i p) (and_intro (p i) (all i p) (true→T (p i) e) t)
+
+pub all_whole : (n i : ℕ) (p : ℕ → Bool) → i ≤ n → n ≤ i → T (all i p) → all n p ≡ true
+all_whole n i p under over t = rw (le_antisymm over under) (T→true (all i p) t)
 
 -- ---- the greatest
 

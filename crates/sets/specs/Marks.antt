@@ -1,11 +1,11 @@
 -- An array of marks as a set of indices. Assumes nothing.
 use Rattle.std.specs.Prelude.{◌≡◌, refl, Bool, true, false, List, [], ◌∷◌, ◌++◌, take, drop, ℕ, zero, suc, ◌+◌, ◌-◌, ◌≤◌, ◌<◌, eqb, ltb, length, get_or, set, replicate}
-use Rattle.std.proofs.Common.{sym, ap, ◌∙◌, ⊎_elim, not-suc-le-zero, le_of_suc-le-suc, arith, length-append, length-drop, get_or-set_same, get_or-set_other, get_or-drop, length-take-le, ext_get_or, eqb-true, lt-ltb, le-ltb}
+use Rattle.std.proofs.Common.{sym, ap, ◌∙◌, ⊎_elim, not-suc-le-zero, le_of_suc-le-suc, arith, ltb→lt, lt→ltb, length-append, length-drop, get_or-set_same, get_or-set_other, get_or-drop, length-take-le, ext_get_or, eqb-true, lt-ltb, le-ltb}
 use Rattle.std.proofs.Math.Path.{fun_ext}
 use Rattle.std.proofs.lemmas.List.{length-replicate, get_or-replicate, get_or-append_right}
 use Rattle.std.proofs.Math.ListN.{get_or-eq_default, get_or-append}
 use Rattle.std.proofs.lemmas.Bool.{eqb-false}
-use Rattle.sets.specs.Choice.{pick, lt_or_le}
+use Rattle.sets.specs.Choice.{pick, lt_or_le, same_test}
 use Rattle.sets.specs.Bounded.{without}
 use Rattle.sets.specs.Pad.{pad, pad-length, pad_used, pad_unused, pad-rest}
 
@@ -39,6 +39,21 @@ marked-none n =
 
 pub marked_first_none : (n : ℕ) → marked (replicate n false) ≡ first 0
 marked_first_none n = marked-none n ∙ fun_ext (λ i. sym (le-ltb i 0 (omega arith)))
+
+first_next : (k j : ℕ) → pick (eqb k j) true (first k j) ≡ first (k + 1) j
+first_next k j = go (eqb k j) refl
+  where
+    go : (b : Bool) → eqb k j ≡ b → pick b true (ltb j k) ≡ ltb j (k + 1)
+    go true f = sym (lt-ltb j (k + 1) (omega (arith, eqb-true k j f)))
+    go false f =
+        let apart = eqb-false k j f in
+        same_test (ltb j k) (ltb j (k + 1)) (λ t. lt→ltb j (k + 1) (omega (arith, ltb→lt j k t)))
+        (λ t. lt→ltb j k (⊎_elim (λ l. l) (λ l. absurd (apart (omega (arith, l, ltb→lt j (k + 1) t)))) (lt_or_le j k)))
+
+pub marked-first : (marks : List Bool) (k : ℕ) → k < length marks → marked marks ≡ first k
+    → marked (set marks k true) ≡ first (k + 1)
+marked-first marks k h e =
+    fun_ext (λ j. marked_store marks k true h j ∙ ap (λ (f : ℕ → Bool). pick (eqb k j) true (f j)) e ∙ first_next k j)
 
 -- ---- the first n values of a function, as a list
 

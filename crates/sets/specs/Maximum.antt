@@ -1,6 +1,6 @@
 -- The greatest value over a marked set of the numbers below a bound, 0 where the set is empty. Assumes nothing.
 use Rattle.std.specs.Prelude.{◌≡◌, refl, Bool, true, false, ◌⊎◌, ℕ, zero, suc, ◌+◌, ◌≤◌, ◌<◌, max, T}
-use Rattle.std.proofs.Common.{sym, ◌∙◌, inl, inr, ⊎_elim, le_refl, not-suc-le-zero, add-one, arith}
+use Rattle.std.proofs.Common.{sym, ◌∙◌, inl, inr, ⊎_elim, le_refl, le_antisymm, not-suc-le-zero, add-one, arith}
 use Rattle.std.proofs.Math.Nat.{le_step}
 use Rattle.sets.specs.Choice.{pick, true→T, T→true, lt_or_le}
 use Rattle.sets.specs.Bounded.{below_suc}
@@ -17,6 +17,13 @@ maximum-none A f = refl
 pub maximum-more : (i : ℕ) (A : ℕ → Bool) (f : ℕ → ℕ) → maximum (i + 1) A f ≡ max (maximum i A f) (pick (A i) (f i) 0)
 unfolding maximum
 maximum-more i A f = rw add-one
+
+pub maximum_turn : (i : ℕ) (A : ℕ → Bool) (f : ℕ → ℕ) {m x y : ℕ} → m ≡ maximum i A f → x ≡ pick (A i) (f i) 0 → y ≡ max m x
+    → y ≡ maximum (i + 1) A f
+maximum_turn i A f e here next = rw (maximum-more i A f, ← e, ← here) next
+
+pub maximum_whole : (n i : ℕ) (A : ℕ → Bool) (f : ℕ → ℕ) {m : ℕ} → i ≤ n → n ≤ i → m ≡ maximum i A f → m ≡ maximum n A f
+maximum_whole n i A f under over e = rw (le_antisymm over under) e
 
 -- ---- it bounds every value of the set, and is one of them or 0
 

@@ -1,11 +1,17 @@
 -- Entries written into the front of a buffer, and more of them into the rest of it. Assumes nothing.
 use Rattle.std.specs.Prelude.{◌≡◌, refl, List, [], ◌∷◌, ◌++◌, ℕ, suc, ◌+◌, ◌-◌, ◌≤◌, ◌<◌, length, get_or, take, drop, set}
 use Rattle.std.proofs.Common.{sym, ap, ◌∙◌, append_assoc, append-nil, add-one, arith, length-append, length-drop, length-set, drop_of_length-le, take_all, take_at, drop_at, drop-cons, drop-drop, drop-set-lt, get_or-set_same}
-use Rattle.std.proofs.Math.Seq.{set-append_seam, append_snoc}
+use Rattle.std.proofs.Math.Seq.{take-append_seam, set-append_seam, append_snoc}
 
 -- the entries, and then what stood after their places
 abbrev pub onto : List ℕ → List ℕ → List ℕ
 onto entries buffer = entries ++ drop (length entries) buffer
+
+-- as many as were written stand in front
+pub front_count : (entries buffer xs : List ℕ) (n : ℕ) → n ≡ length entries → xs ≡ onto entries buffer
+    → (n ≤ length xs) × (n ≡ length (take n xs))
+front_count entries buffer xs n e f =
+    rw (f, e) (simp length-append (omega arith), ap length (sym (take-append_seam entries (drop (length entries) buffer))))
 
 -- more, into the rest of the buffer
 pub onto-more : (xs ys buffer : List ℕ) → xs ++ onto ys (drop (length xs) buffer) ≡ onto (xs ++ ys) buffer
@@ -34,6 +40,15 @@ pub front_as : {entries same buffer xs : List ℕ} {at : ℕ} → entries ≡ sa
 front_as e f = rw (← e) f
 
 module _ {entries buffer xs : List ℕ} {at : ℕ} (f : Front entries buffer at xs) where
+  -- they lie inside
+  pub front_in : at ≤ length xs
+  front_in = omega (arith, ap length f.list, length-append entries (drop (length entries) buffer), f.count)
+
+  -- and the buffer is as long as it was
+  pub front_length : length entries ≤ length buffer → length xs ≡ length buffer
+  front_length h =
+      omega (arith, ap length f.list, length-append entries (drop (length entries) buffer), length-drop (length entries) buffer)
+
   -- a lent tail is what stands there in the buffer
   tail_kept : tail_of at xs ≡ drop (length entries) buffer
   tail_kept =

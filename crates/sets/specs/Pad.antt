@@ -1,6 +1,6 @@
 -- A list as the front of an array of n entries, the rest of which is d. Assumes nothing.
 use Rattle.std.specs.Prelude.{◌≡◌, refl, List, [], ◌∷◌, ◌++◌, map, ℕ, zero, suc, ◌+◌, ◌-◌, ◌≤◌, ◌<◌, length, get_or, set, replicate, take}
-use Rattle.std.proofs.Common.{sym, ap, ◌∙◌, ⊎_elim, not-suc-le-zero, le_of_suc-le-suc, add-one, arith, append_assoc, length-append, length-set, get_or-append-add}
+use Rattle.std.proofs.Common.{sym, ap, ◌∙◌, ⊎_elim, not-suc-le-zero, le_of_suc-le-suc, add-one, arith, append_assoc, length-append, length-set, length-take-le, take-suc, get_or-append-add}
 use Rattle.std.specs.List.{remove}
 use Rattle.std.proofs.lemmas.List.{length-replicate, get_or-replicate, set-append_left, replicate_more, take-set, drop-set-lt}
 use Rattle.std.proofs.lemmas.List.Edits.{length-remove, remove-append_left}
@@ -25,6 +25,13 @@ module _ {A : Type 0} where
       let e : length (xs ++ x ∷ []) ≡ suc (length xs) = length-append xs (x ∷ []) ∙ add-one (length xs) in
       let rest = replicate (n - suc (length xs)) d in
       rw (e, replicate-less n (length xs) d h, set-append_seam xs d rest x) (sym (append_snoc xs x rest))
+
+  -- the next of a list's entries, as a loop stores it
+  pub pad-next : (n : ℕ) (d : A) (xs : List A) (k : ℕ) (array : List A) → k < length xs → length xs ≤ n
+      → array ≡ pad n d (take k xs) → set array k (get_or xs k d) ≡ pad n d (take (k + 1) xs)
+  pad-next n d xs k array h few e =
+      let long : length (take k xs) ≡ k = length-take-le k xs (omega arith) in
+      rw (e, add-one k, take-suc xs k d h, long) (rw long at (set-pad n d (take k xs) (get_or xs k d) (omega (arith, long))))
 
   pub pad_used : (n : ℕ) (d : A) (xs : List A) (k : ℕ) → k < length xs → get_or (pad n d xs) k d ≡ get_or xs k d
   pad_used n d xs k h = get_or-append xs (replicate (n - length xs) d) d k h

@@ -28,6 +28,10 @@ pub sum_turn : (total base j : ℕ) (above : ℕ → Bool) (f : ℕ → ℕ) (x 
     → x ≡ pick (above j) (f j) 0 → total + x ≡ base + sum (j + 1) above f
 sum_turn total base j above f x e k = omega (arith, sum_more j above f)
 
+pub sum_end : (total base j n : ℕ) (above : ℕ → Bool) (f : ℕ → ℕ) → total ≡ base + sum j above f → j ≤ n → n ≤ j
+    → total ≡ base + sum n above f
+sum_end total base j n above f e under over = rw (le_antisymm over under) e
+
 term_mono : (b a : Bool) (x y : ℕ) → (T b → T a) → (T b → x ≤ y) → pick b x 0 ≤ pick a y 0
 term_mono true true x y f g = g tt
 term_mono true false x y f g = absurd (f tt)

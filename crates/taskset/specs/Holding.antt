@@ -1,10 +1,10 @@
 -- The set that calls make holds the reference model's lists, entry for entry, and the check of 14 passes it.
 -- Assumes nothing.
-use Rattle.std.specs.Prelude.{◌≡◌, refl, Bool, true, false, List, [], ◌∷◌, ◌++◌, ℕ, ◌<◌, T, ltb, length, get_or, Result, Ok, Err, is_ok}
+use Rattle.std.specs.Prelude.{◌≡◌, refl, Bool, true, false, List, [], ◌∷◌, ◌++◌, ℕ, ◌<◌, T, ltb, length, get_or, replicate, drop, Result, Ok, Err, is_ok}
 use Rattle.std.proofs.Common.{ap, add-one, arith, length-append, le-leb, ltb-true, ltb-false}
 use Rattle.std.proofs.Math.ListN.{get_or-append}
 use Rattle.std.proofs.Math.Seq.{get_or-append_seam}
-use Rattle.std.proofs.lemmas.List.{get_or_default}
+use Rattle.std.proofs.lemmas.List.{get_or_default, drop-replicate}
 use Rattle.sets.specs.Choice.{pick, T→true}
 use Rattle.sets.specs.Bounded.{all, all_of, below_suc}
 use Rattle.sets.specs.Pad.{pad, take-pad, pad_used, pad_unused}
@@ -18,6 +18,10 @@ use Rattle.taskset.specs.RefusalLaws.{taken_exactly, fits_exactly}
 
 pub lists-holding : (l : Lists) → lists (holding l) ≡ l
 lists-holding l = rw (take-pad max_tasks blank_task l.tasks, take-pad max_rules blank_rule l.rules)
+
+-- a list copied to the front of an array of blank entries
+pub pad_copied : {A : Type 0} (n : ℕ) (d : A) (xs : List A) → xs ++ drop (length xs) (replicate n d) ≡ pad n d xs
+pad_copied {A} n d xs = ap (λ (rest : List A). xs ++ rest) (drop-replicate (length xs) n d)
 
 -- ---- lists that adding has taken
 

@@ -5,14 +5,15 @@
 mod refusals;
 mod system;
 
-ghost use Rattle.std.specs.Prelude.{◌≡◌, ◌≤◌, ◌<◌, true, ◌↔◌, is_some, IfSome};
+ghost use Rattle.std.specs.Prelude.{◌≡◌, ◌≤◌, ◌<◌, true, ◌↔◌, length, is_some, IfSome};
+ghost use Rattle.sets.specs.Pad.{pad};
 ghost use Rattle.taskset.specs.declared.Call.TheVariants.{AddTask, AddRule};
 ghost use Rattle.taskset.specs.Refusals.{max_tasks, max_rules, resources, section_on, longest_section, uses_none};
 ghost use Rattle.taskset.specs.Refusals.{first_of, row_refusals, place_refusals, index_refusals, weight_refusals, refusal_by};
 ghost use Rattle.taskset.specs.Model.{refusal_of, Sound};
-ghost use Rattle.taskset.specs.Numbers.{task_of, rule_of};
+ghost use Rattle.taskset.specs.Numbers.{task_of, rule_of, task_numbers, rule_numbers};
 ghost use Rattle.taskset.specs.Views.{lists_of};
-ghost use Rattle.taskset.specs.Adding.{fresh_set, is_blank_task, is_blank_rule, is_made, lists, add, Made};
+ghost use Rattle.taskset.specs.Adding.{holding, fresh_set, is_blank_task, is_blank_rule, is_made, lists, add, Made};
 
 pub use refusals::Refusal;
 pub use system::{System, Tasks};
@@ -108,6 +109,27 @@ impl From<[u64; RULE_NUMBERS]> for Rule {
             lower: TaskIndex(lower as usize),
             weight,
         }
+    }
+}
+
+impl From<Task> for [u64; TASK_NUMBERS] {
+    ghost from_gives = { λ task numbers. numbers ≡ task_numbers task };
+
+    // In the order of a line.
+    fn from(task: Task) -> [u64; TASK_NUMBERS] {
+        let mut numbers = [0; TASK_NUMBERS];
+        numbers[..4].copy_from_slice(&[task.execution, task.period, task.deadline, task.jitter]);
+        numbers[4..].copy_from_slice(&task.sections);
+        numbers
+    }
+}
+
+impl From<Rule> for [u64; RULE_NUMBERS] {
+    ghost from_gives = { λ rule numbers. numbers ≡ rule_numbers rule };
+
+    // In the order of a line.
+    fn from(rule: Rule) -> [u64; RULE_NUMBERS] {
+        [rule.higher.0 as u64, rule.lower.0 as u64, rule.weight]
     }
 }
 
@@ -234,6 +256,17 @@ pub fn check(n: usize, m: usize, call: &Call) -> Result<(), Refusal>
     Ok(())
 }
 
+// A list as the front of an array, the rest of which is blank.
+#[tactic(auto, using(crate::specs::Holding::pad_copied))]
+fn padded<L: Copy, const N: usize>(list: &[L], blank: L) -> [L; N]
+    requires { length list.now ≤ N }
+    ensures { result ≡ pad N blank list.now }
+{
+    let mut array = [blank; N];
+    array[..list.len()].copy_from_slice(list);
+    array
+}
+
 impl TaskSet {
     // An empty task set.
     pub fn fresh() -> TaskSet
@@ -244,6 +277,20 @@ impl TaskSet {
             ntasks: 0,
             rules: [Rule::default(); MAX_RULES],
             nrules: 0,
+        }
+    }
+
+    // The set that holds these tasks and rules, sound or not.
+    pub fn hold(tasks: &[Task], rules: &[Rule]) -> TaskSet
+        requires few { length tasks.now ≤ max_tasks }
+        requires few_rules { length rules.now ≤ max_rules }
+        ensures { result ≡ holding (record { tasks = tasks.now; rules = rules.now }) }
+    {
+        TaskSet {
+            tasks: padded(tasks, Task::default()),
+            ntasks: tasks.len(),
+            rules: padded(rules, Rule::default()),
+            nrules: rules.len(),
         }
     }
 

@@ -8,7 +8,6 @@ use mathlib.Core.List.{List, [], ◌∷◌, map}
 use Rattle.std.proofs.Math.Dec.{T, eqb, eqb→eq}
 use Rattle.std.proofs.Math.ListN.{length, length-map}
 use Rattle.sets.specs.Choice.{T→true, true→T, and_left, and_right}
-use Rattle.sets.specs.Marks.{table}
 use Rattle.lines.specs.Decimal.{tab, max_digits, is_digit, are_digits, value, is_number, decimal}
 use Rattle.lines.specs.Parts.{parts, join}
 use Rattle.lines.specs.ReadBack.{decimal_digits, read_back, number_exactly}
@@ -18,6 +17,7 @@ use Rattle.taskset.specs.declared.Rule.{Rule}
 use Rattle.taskset.specs.declared.Call.TheVariants.{AddTask, AddRule}
 use Rattle.taskset.specs.Refusals.{resources}
 use Rattle.taskset.specs.Numbers.{task_numbers, rule_numbers, task_of, rule_of, task_size, rule_size}
+use Rattle.taskset.proofs.NumbersLaws.{task_back}
 use Rattle.text.specs.LineLaws.{asks}
 use Rattle.text.specs.Text.{letter_t, letter_r, is_letter, are_numbers, has_form, values_in, asked, line_in, lettered}
 
@@ -105,17 +105,6 @@ module _ (letter : ℕ) (ns : List ℕ) where
 
 -- ---- both kinds of lines
 
--- a row with a section for each resource is the one of its numbers
-table_self : (xs : List ℕ) → table (length xs) (λ k. get_or xs k 0) ≡ xs
-table_self [] = refl
-table_self (x ∷ xs) = ap (λ (ys : List ℕ). x ∷ ys) (table_self xs)
-
-task_self : (t : Task) → length t.sections ≡ resources → task_of (task_numbers t) ≡ t
-task_self t whole =
-    let same : table resources (λ k. get_or t.sections k 0) ≡ t.sections =
-    subst (λ (n : ℕ). table n (λ k. get_or t.sections k 0) ≡ t.sections) whole (table_self t.sections) in
-    ap (λ (xs : List ℕ). record t { sections = xs }) same
-
 -- a task's line: read, written, and both ways
 task_line_read : (t : Task) (fs : List (List ℕ)) → asked fs ≡ Some (AddTask t)
     → (fs ≡ lettered letter_t (task_numbers t)) × Short (task_numbers t) × (length t.sections ≡ resources)
@@ -137,7 +126,7 @@ unfolding asked has_form
 task_line_written t whole s =
     let w = numbers_written (task_numbers t) s in
     let long : length (map decimal (task_numbers t)) ≡ task_size = omega (arith, length-map (task_numbers t) decimal) in
-    rw (w.0, long) (ap (λ (ms : List ℕ). Some (AddTask (task_of ms))) w.1 ∙ ap (λ (u : Task). Some (AddTask u)) (task_self t whole))
+    rw (w.0, long) (ap (λ (ms : List ℕ). Some (AddTask (task_of ms))) w.1 ∙ ap (λ (u : Task). Some (AddTask u)) (task_back t whole))
 
 pub task_line_exactly : (bytes : List ℕ) (t : Task) → (line_in bytes ≡ Some (AddTask t))
     ↔ ((bytes ≡ join tab (lettered letter_t (task_numbers t))) × Short (task_numbers t) × (length t.sections ≡ resources))

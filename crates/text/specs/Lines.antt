@@ -14,13 +14,13 @@ use Rattle.taskset.specs.Model.{Lists, no_lists, refusal_of, extended, Sound}
 use Rattle.taskset.specs.Adding.{holding, lists, fresh_set, is_made, add}
 use Rattle.taskset.specs.Holding.{none_sound, taken_sound, sound_made, lists-holding, add-holding}
 use Rattle.text.specs.declared.RefusedAt.{RefusedAt}
-use Rattle.text.specs.Text.{line_in, max_text, refused_at, finished, by_refusal, by_line, read_from, reading}
+use Rattle.text.specs.Text.{line_in, max_text, Read, refused_at, finished, by_refusal, by_line, read_from, reading}
 
--- a refusal with its line
-abbrev pub bad : ℕ → Refusal → Result (Unit {0}) RefusedAt
-bad line refusal = Err (record { line = line; refusal = refusal })
+-- equal readings have equal answers
+pub answer_of : {r s : Read} → r ≡ s → r.answer ≡ s.answer
+answer_of e = ap (λ (r : Read). r.answer) e
 
-pub text_long : (text : List ℕ) → max_text < length text → bad 0 LongText ≡ (reading text).answer
+pub text_long : (text : List ℕ) → max_text < length text → refused_at 0 LongText ≡ reading text
 unfolding reading
 text_long text h = rw (lt-ltb max_text (length text) h)
 
@@ -71,25 +71,22 @@ module _ {text : List ℕ} {r : Reader} {line : ℕ} {set : TaskSet} (t : ReadTo
   so_far_made = ap is_made t.holds ∙ sound_made t.so_far t.sound
 
   -- at the end it holds what the text gives
-  ended : length text ≤ r.at → finished t.so_far ≡ reading text
+  pub text_ends : length text ≤ r.at → finished t.so_far ≡ reading text
   unfolding read_from parts
-  ended h = rw (drop_of_length-le text h) at t.same
-
-  pub text_ends : length text ≤ r.at → Ok tt ≡ (reading text).answer
-  text_ends h = rw (← ended h)
+  text_ends h = rw (drop_of_length-le text h) at t.same
 
   pub text_held : length text ≤ r.at → set ≡ holding (reading text).lists
-  text_held h = t.holds ∙ rw (← ended h)
+  text_held h = t.holds ∙ rw (← text_ends h)
 
   -- the line at the position
   at_here : here r ≡ up_to feed (drop r.at text)
   at_here = rw t.over
 
   -- no line feed ends it
-  pub line_unended : r.at < length text → length r.text.now ≤ r.at + length (here r) → bad line BadLine ≡ (reading text).answer
+  pub line_unended : r.at < length text → length r.text.now ≤ r.at + length (here r) → refused_at line BadLine ≡ reading text
   line_unended some h =
       let last = part_last feed text r.at (here r) at_here (omega (arith, ap length t.over)) in
-      rw (← sym (line_last t.so_far line (here r) (omega (arith, h, ap length t.over))) ∙ rw last at t.same)
+      sym (line_last t.so_far line (here r) (omega (arith, h, ap length t.over))) ∙ rw last at t.same
 
   module _ (more : r.at + length (here r) < length r.text.now) where
     ended_within : r.at + length (here r) < length text
@@ -105,8 +102,8 @@ module _ {text : List ℕ} {r : Reader} {line : ℕ} {set : TaskSet} (t : ReadTo
 
     module _ {bytes : List ℕ} (found : bytes ≡ here r) where
       -- it can't be read
-      pub line_unread : None ≡ line_in bytes → bad line BadLine ≡ (reading text).answer
-      line_unread e = let none : line_in (here r) ≡ None = sym (e ∙ ap line_in found) in rw (← (rw none at one))
+      pub line_unread : None ≡ line_in bytes → refused_at line BadLine ≡ reading text
+      line_unread e = let none : line_in (here r) ≡ None = sym (e ∙ ap line_in found) in rw none at one
 
       -- its call is refused, or taken
       module _ {c : Call} (asks : Some c ≡ line_in bytes) where
@@ -119,8 +116,8 @@ module _ {text : List ℕ} {r : Reader} {line : ℕ} {set : TaskSet} (t : ReadTo
             → by_refusal line a (read_from (extended t.so_far c) (suc line) rest) ≡ reading text
         by e = let some : line_in (here r) ≡ Some c = sym (asks ∙ ap line_in found) in rw (e, answers) (rw some at one)
 
-        pub line_refused : {k : Refusal} → Err k ≡ refusal_of (lists set) c → bad line k ≡ (reading text).answer
-        line_refused e = rw (← by e)
+        pub line_refused : {k : Refusal} → Err k ≡ refusal_of (lists set) c → refused_at line k ≡ reading text
+        line_refused = by
 
         -- so also where the refusal is handed on with its line
         pub line_mapped : (a : Result (Unit {0}) Refusal) → a ≡ refusal_of (lists set) c → {m : Result (Unit {0}) RefusedAt} {k : RefusedAt}
@@ -129,7 +126,7 @@ module _ {text : List ℕ} {r : Reader} {line : ℕ} {set : TaskSet} (t : ReadTo
         line_mapped (Ok u) e f says with-line = absurd (cc)
         line_mapped (Err x) e {m} {k} f {Q} says with-line =
             let h : Q x k = rw f at says in
-            ap (λ (y : RefusedAt). Err y) (with-line x k h) ∙ line_refused e
+            ap (λ (y : RefusedAt). Err y) (with-line x k h) ∙ answer_of (line_refused e)
 
         pub line_taken : Ok tt ≡ refusal_of (lists set) c → {next : TaskSet} → next ≡ (add set c).set
             → {q : Reader} → q.text ≡ r.text → q.at ≡ r.at + length (here r) + 1 → ReadTo text q (line + 1) next

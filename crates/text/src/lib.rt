@@ -76,9 +76,9 @@ pub fn parse(line: &[u8]) -> Option<Call>
     }
 }
 
-// Reads a text into a fresh set, a line at a time. What stands in the set after a refusal is left open: nobody reads it.
+// Reads a text into a fresh set, a line at a time.
 #[tactic(auto, using(crate::specs::Lines::text_laws))]
-pub fn hear_lines(text: &[u8], set: &mut TaskSet) -> Result<(), RefusedAt>
+fn hear_each(text: &[u8], set: &mut TaskSet) -> Result<(), RefusedAt>
     requires { set.old ≡ fresh_set }
     ensures answer { result ≡ (reading text.now).answer }
     ensures set { IfOk result (λ _. set.new ≡ holding (reading text.now).lists) }
@@ -107,15 +107,26 @@ pub fn hear_lines(text: &[u8], set: &mut TaskSet) -> Result<(), RefusedAt>
     Ok(())
 }
 
-// Reads a text into a fresh set.
+// Reads a text into a set, whatever stood there; a refused text leaves it empty.
 #[tactic(auto, using(crate::specs::Asking::reading_none))]
+pub fn hear_lines(text: &[u8], set: &mut TaskSet) -> Result<(), RefusedAt>
+    ensures answer { result ≡ (reading text.now).answer }
+    ensures set { set.new ≡ holding (reading text.now).lists }
+{
+    *set = TaskSet::fresh();
+    let answer = hear_each(text, set);
+    if answer.is_err() {
+        *set = TaskSet::fresh();
+    }
+    answer
+}
+
+// Reads a text into a fresh set.
+#[tactic(auto)]
 pub fn read(text: &[u8]) -> Reading
     ensures { result ≡ handed (reading text.now) }
 {
     let mut set = TaskSet::fresh();
     let answer = hear_lines(text, &mut set);
-    if answer.is_err() {
-        set = TaskSet::fresh();
-    }
     Reading { answer, set }
 }

@@ -8,7 +8,7 @@ use Rattle.taskset.specs.declared.Task.{Task}
 use Rattle.taskset.specs.Refusals.{max_rules}
 use Rattle.taskset.specs.Model.{Lists, rule_at, Sound}
 use Rattle.assignment.specs.declared.Search.{Search}
-use Rattle.assignment.specs.Audsley.{Problem, feasible, Stuck, problem, bare}
+use Rattle.assignment.specs.Audsley.{Problem, without_rules, feasible, Stuck, problem, bare}
 use Rattle.assignment.specs.Decision.{Lawful, stuck_without, feasible_fewer}
 use Rattle.assignment.specs.Search.{Searched, Ended, Known}
 use Rattle.assignment.specs.Filling.{ended_decides, searched_fewer}
@@ -53,9 +53,9 @@ module _ (p : Problem) (lawful : Lawful p) (c : Cut) (cutting : Cutting p c) (k 
   pub cut_searched : Searched p (marked less) c.stuck
   cut_searched = searched_fewer p (marked less) (marked c.active) fewer c.stuck cutting.stuck.searched
 
-  -- a search without the rule that did not fill every level: the rest is infeasible, and the rule goes
-  pub cut_goes : (s : Search) → Ended p (marked less) s → (s.free ≡ 0 → ⊥) → marked less ≡ tried (feasible p) (marked c.active) k
-  cut_goes s ended more =
+  -- with the rest infeasible, the rule goes
+  pub goes : (s : Search) → Ended p (marked less) s → (s.free ≡ 0 → ⊥) → marked less ≡ tried (feasible p) (marked c.active) k
+  goes s ended more =
       less_marks
       ∙ tried_goes (feasible p) (marked c.active) k
       (λ t. more ((ended_decides p (marked less) lawful s ended).1 (subst (λ (f : ℕ → Bool). T (feasible p f)) (sym less_marks) t)))
@@ -76,7 +76,7 @@ module _ (p : Problem) (lawful : Lawful p) (c : Cut) (cutting : Cutting p c) (k 
     pub cut_spared : (marked less ≡ tried (feasible p) (marked c.active) k)
         × Cutting p (record { active = less; stuck = c.stuck; known = c.known; other = c.other })
     cut_spared = (
-      cut_goes c.stuck still (λ z. omega (arith, z, cutting.unfilled)),
+      goes c.stuck still (λ z. omega (arith, z, cutting.unfilled)),
       record { long = simp length-set cutting.long; stuck = still; unfilled = cutting.unfilled; known = cutting.known; other = cutting.other },
     )
 
@@ -94,6 +94,15 @@ module _ (p : Problem) (lawful : Lawful p) (c : Cut) (cutting : Cutting p c) (k 
         known = cutting.known;
         other = searched_bare p (marked less) s ended.searched;
       },
+    )
+
+    -- none was: it goes, and the next search goes on from there
+    pub cut_goes : (s.free ≡ 0 → ⊥) → Known (without_rules p) (marked s.left) (marked c.known)
+        → (marked less ≡ tried (feasible p) (marked c.active) k)
+        × Cutting p (record { active = less; stuck = s; known = c.known; other = c.other })
+    cut_goes more known = (
+      goes s ended more,
+      record { long = simp length-set cutting.long; stuck = ended; unfilled = omega (arith, more); known = known; other = cutting.other },
     )
 
 -- ---- without any rule

@@ -14,11 +14,11 @@ use Rattle.answer.proofs.answer.Goals.{After-show}
 
 pub system-system-requires-clause-counts : goal.system-system-requires-clause-counts
 system-system-requires-clause-counts c =
-    let s = reading_sound c.args.text.now in rw c.in_ok-hear_lines.ensures.set (s.tasks.few, s.few_rules)
+    rw c.hear_lines.ensures.set ((reading_sound _).tasks.few, (reading_sound _).few_rules)
 
 pub system-system-requires-clause-sound : goal.system-system-requires-clause-sound
 system-system-requires-clause-sound c =
-    rw (c.in_ok-hear_lines.ensures.set, lists-holding (reading c.args.text.now).lists) (reading_sound c.args.text.now)
+    rw (c.hear_lines.ensures.set, lists-holding _) (reading_sound _)
 
 read : (c : After-show) → (reading c.args.text.now).answer ≡ Ok c.in_ok-hear_lines.field-0
 read c = sym c.hear_lines.ensures.answer ∙ c.in_ok-hear_lines.was
@@ -26,7 +26,7 @@ read c = sym c.hear_lines.ensures.answer ∙ c.in_ok-hear_lines.was
 same : (c : After-show) → outcome (lists_of c.system-system.result) c.decide-decided.result.verdict ≡ answer_to c.args.text.now
 same c =
     read_shown c.args.text.now c.args.out.now (read c)
-    (c.system-system.ensures ∙ ap lists c.in_ok-hear_lines.ensures.set ∙ lists-holding (reading c.args.text.now).lists)
+    (c.system-system.ensures ∙ ap lists c.hear_lines.ensures.set ∙ lists-holding (reading c.args.text.now).lists)
     c.decide-decided.ensures.verdict_value
 
 -- so it is refused

@@ -1,6 +1,5 @@
 -- A turn makes one call more; then solving, and the theorems of its answer. Assumes nothing.
 use Rattle.std.proofs.Common.{sym, ap, subst, arith, ◌∙◌, take_all}
-use Rattle.taskset.specs.declared.Changed.{Changed}
 use Rattle.taskset.specs.Model.{no_lists, heard}
 use Rattle.taskset.specs.Adding.{fresh_set, run}
 use Rattle.verdict.specs.declared.Solved.{Solved}
@@ -8,15 +7,11 @@ use Rattle.verdict.specs.Verdict.{solving}
 use Rattle.verdict.specs.OneOrder.{OneOrder}
 use Rattle.replay.specs.Demand3.{Demand3}
 use Rattle.replay.specs.Theorem.{demand_3, one_order_lem}
-use Rattle.replay.specs.Replaying.{replay_turn}
 use Rattle.replay.proofs.replay.Goals as goal
 
 pub loop-call-init : goal.loop-call-init
 unfolding run
 loop-call-init c = c.fresh-set.ensures
-
-pub loop-call-preserved : goal.loop-call-preserved
-loop-call-preserved c = replay_turn c.args.calls.now c.loop-call.call-index _ _ _ (omega arith) c.loop-call.invariant (ap (λ (a : Changed). a.set) c.add.ensures)
 
 pub returns : goal.returns
 returns c =

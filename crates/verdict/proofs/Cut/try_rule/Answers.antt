@@ -10,10 +10,10 @@ use Rattle.taskset.specs.Refusals.{max_rules}
 use Rattle.taskset.specs.Model.{rule_at}
 use Rattle.taskset.specs.Views.{lists_of}
 use Rattle.assignment.specs.declared.Search.{Search}
-use Rattle.assignment.specs.Audsley.{Problem, feasible, problem}
+use Rattle.assignment.specs.Audsley.{Problem, feasible, problem, bare}
 use Rattle.assignment.specs.Decision.{Lawful}
 use Rattle.assignment.proofs.Preemptive.{lawful}
-use Rattle.assignment.specs.Search.{Searched, Ended}
+use Rattle.assignment.specs.Search.{Searched, Ended, Known}
 use Rattle.verdict.specs.declared.Cut.{Cut}
 use Rattle.verdict.specs.Core.{tried}
 use Rattle.verdict.specs.Cut.{Cutting}
@@ -56,7 +56,9 @@ module _ (system : System) (cut : Cut) (k : ℕ) (here : k < length system.rules
         × Cutting p (record { active = marks; stuck = cut.stuck; known = cut.known; other = s }))
         (sym same) (cut_stays p fair cut cutting k within s ended full)
 
-    out : (s.free ≡ 0 → ⊥) → marked (set cut.active k false) ≡ rest
+    out : (s.free ≡ 0 → ⊥) → Known (bare system.tasks.now) (marked s.left) (marked cut.known)
+        → (marked (set cut.active k false) ≡ rest)
+        × Cutting p (record { active = set cut.active k false; stuck = s; known = cut.known; other = cut.other })
     out = cut_goes p fair cut cutting k within s ended
 
 pub returns-then-not-self-rule : goal.returns-then-not-self-rule
@@ -75,7 +77,10 @@ returns-then-tried-eq0 c =
     c.if-tried-eq0.true in
     record { active = w.0; cutting = w.1 }
 
-pub returns-clause-active : goal.returns-clause-active
-returns-clause-active c =
+pub returns : goal.returns
+returns c =
     let tried = c.fill_levels-tried in
-    out c.args.system c.args.self.now c.args.k c.requires.k_in_bounds c.requires.cuts tried.result tried.ensures.ended c.if-tried-eq0.false
+    let w =
+    out c.args.system c.args.self.now c.args.k c.requires.k_in_bounds c.requires.cuts tried.result tried.ensures.ended
+    c.if-tried-eq0.false tried.ensures.helps.known in
+    record { active = w.0; cutting = w.1 }

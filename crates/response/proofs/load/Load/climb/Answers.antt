@@ -1,23 +1,9 @@
--- `Load::climb` meets its contract: no solution lies below w, and w rises to its demand or further.
-use Rattle.std.proofs.Common.{Some, None, sym, subst, arith}
-use Rattle.response.specs.Agreement.{climb, window_is}
-use Rattle.response.proofs.Demand.{load_mono}
-use Rattle.response.specs.Load.{Bounds}
+-- `Load::climb` meets its contract: no window lies below the demand at 1.
 use Rattle.response.proofs.LeapLaws.{start_bounds}
 use Rattle.response.proofs.load.Load.climb.Goals as goal
 
-pub loop-w-init : goal.loop-w-init
-loop-w-init c =
-    let b = start_bounds c.args.self.now.is_load c.requires.start_value in record { low = b.0; rounds = omega arith; bounds = b.1 }
+pub climb_from-requires-clause-low_bound : goal.climb_from-requires-clause-low_bound
+climb_from-requires-clause-low_bound c = (start_bounds _ _ _ _ c.args.self.now.is_load.low c.requires.start_value).0
 
-pub next-w-requires-clause-bounds_needed : goal.next-w-requires-clause-bounds_needed
-next-w-requires-clause-bounds_needed c =
-    subst (Bounds _) (sym c.demand-needed.ensures) (climb _ (load_mono _ _ _) _ c.loop-w.invariant.bounds)
-
-pub returns-then-room-w : goal.returns-then-room-w
-returns-then-room-w c = window_is _ _ None (λ v low met. omega (arith, c.loop-w.invariant.bounds v low met))
-
-pub returns-then-needed-w : goal.returns-then-needed-w
-returns-then-needed-w c =
-    window_is _ _ (Some _)
-    (record { low = c.loop-w.invariant.low; met = omega (arith, c.demand-needed.ensures); least = c.loop-w.invariant.bounds }, omega arith)
+pub climb_from-requires-clause-bounds : goal.climb_from-requires-clause-bounds
+climb_from-requires-clause-bounds c = (start_bounds _ _ _ _ c.args.self.now.is_load.low c.requires.start_value).1

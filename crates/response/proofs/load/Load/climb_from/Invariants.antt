@@ -1,8 +1,8 @@
--- `Load::climb`: no solution lies below w, which rises with each turn.
+-- `Load::climb_from`: no solution lies below w, which rises with each turn.
 use Rattle.std.proofs.Common.{◌+◌, ◌-◌, ◌≤◌}
 use Rattle.response.specs.Load.{Bounds}
 use Rattle.response.specs.Views.{demand_in}
-use Rattle.response.proofs.load.Load.climb.Given as goal
+use Rattle.response.proofs.load.Load.climb_from.Given as goal
 
 abbrev pub invariant-loop-w : goal.invariant-loop-w
 invariant-loop-w l = record {

@@ -1,16 +1,17 @@
 -- A line that ends the reading gives what the whole text gives; and so does the text's end.
 use Rattle.std.proofs.Common.{rules}
 use Rattle.std.proofs.lemmas.Result.{err_from_is_err_and}
-use Rattle.text.specs.Lines.{so_far_made, text_ends, text_held, line_unended, line_unread, line_mapped}
-use Rattle.text.proofs.hear_lines.Goals as goal
+use Rattle.text.specs.Lines.{answer_of, so_far_made, text_ends, text_held, line_unended, line_unread, line_mapped}
+use Rattle.text.proofs.hear_each.Goals as goal
 
 pub returns-in_default-clause-answer : goal.returns-in_default-clause-answer
-returns-in_default-clause-answer c = line_unended c.loop-reader.invariant c.loop-reader-test.true c.in_default.ensures.line.0
+returns-in_default-clause-answer c =
+    answer_of (line_unended c.loop-reader.invariant c.loop-reader-test.true c.in_default.ensures.line.0)
 
 pub returns-in_default-parse-clause-answer : goal.returns-in_default-parse-clause-answer
 returns-in_default-parse-clause-answer c =
     let (at, ended, _) = c.in-Some.ensures.line in
-    line_unread c.loop-reader.invariant ended at c.in_default-parse.ensures
+    answer_of (line_unread c.loop-reader.invariant ended at c.in_default-parse.ensures)
 
 pub hear-requires : goal.hear-requires
 hear-requires c = so_far_made c.loop-reader.invariant
@@ -23,7 +24,7 @@ returns-in_err-map_err-clause-answer c =
     rw (p.1, p.2) m
 
 pub returns-clause-answer : goal.returns-clause-answer
-returns-clause-answer c = text_ends c.loop-reader.invariant c.loop-reader-test.false
+returns-clause-answer c = answer_of (text_ends c.loop-reader.invariant c.loop-reader-test.false)
 
 pub returns-clause-set : goal.returns-clause-set
 returns-clause-set c = text_held c.loop-reader.invariant c.loop-reader-test.false
